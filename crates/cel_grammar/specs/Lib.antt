@@ -1,0 +1,5 @@
+pub mod Place
+pub mod Grammar
+pub mod Depth
+pub mod Reader
+pub mod Answer

@@ -1,0 +1,62 @@
+ghost use Rattle.std.specs.Prelude.{◌≡◌, ◌<◌, ◌≤◌, length, IfOk, IsUtf8, slice_index, true};
+ghost use Rattle.cel_token.specs.Spelling.{is_letter, is_reserved};
+ghost use Rattle.cel_lexeme.specs.Lexeme.{word_lexeme};
+ghost use Rattle.cel_lexeme.specs.Front.{word_at};
+
+use crate::Lexeme;
+use crate::bytes::{text, word_len};
+use cel_token::{Kind, Sign};
+use iam_text::OutOfMemory;
+use std::alloc::Global;
+
+/// Whether a word is kept for other uses, or `null`.
+fn is_reserved(word: &[u8]) -> bool
+    ensures { result ≡ is_reserved word.now }
+{
+    word == b"as".as_slice()
+        || word == b"break".as_slice()
+        || word == b"const".as_slice()
+        || word == b"continue".as_slice()
+        || word == b"else".as_slice()
+        || word == b"for".as_slice()
+        || word == b"function".as_slice()
+        || word == b"if".as_slice()
+        || word == b"import".as_slice()
+        || word == b"let".as_slice()
+        || word == b"loop".as_slice()
+        || word == b"namespace".as_slice()
+        || word == b"null".as_slice()
+        || word == b"package".as_slice()
+        || word == b"return".as_slice()
+        || word == b"var".as_slice()
+        || word == b"void".as_slice()
+        || word == b"while".as_slice()
+}
+
+fn word_lexeme(alloc: Global, word: &[u8]) -> Result<Lexeme, OutOfMemory>
+    requires { IsUtf8 word.now }
+    ensures { IfOk result (λ lexeme. lexeme ≡ word_lexeme word.now) }
+{
+    if word == b"in".as_slice() {
+        Ok(Lexeme::Token(Kind::Sign(Sign::In)))
+    } else if word == b"true".as_slice() {
+        Ok(Lexeme::Token(Kind::Truth(true)))
+    } else if word == b"false".as_slice() {
+        Ok(Lexeme::Token(Kind::Truth(false)))
+    } else if is_reserved(word) {
+        Ok(Lexeme::Reserved)
+    } else {
+        Ok(Lexeme::Token(Kind::Name(text(alloc, word)?)))
+    }
+}
+
+/// The word at a letter.
+#[tactic(auto, unfolding(crate::specs::Front::word_at))]
+pub fn word_at(alloc: Global, z: &[u8]) -> Result<(Lexeme, usize), OutOfMemory>
+    requires { is_letter (slice_index z.now 0) ≡ true }
+    ensures value { IfOk result (λ found. found ≡ word_at z.now) }
+    ensures within { IfOk result (λ found. found.1 ≤ length z.now) }
+{
+    let n = word_len(z);
+    Ok((word_lexeme(alloc, &z[..n])?, n))
+}

@@ -1,0 +1,9 @@
+pub mod Layers
+pub mod Stand
+pub mod Fit
+pub mod Again
+pub mod Separated
+pub mod Named
+pub mod Cost
+pub mod Shape
+pub mod Light

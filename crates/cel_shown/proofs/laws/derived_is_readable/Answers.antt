@@ -1,0 +1,5 @@
+use Rattle.cel_shown.proofs.Named.{derived_reads}
+use Rattle.cel_shown.proofs.laws.derived_is_readable.Goals as goal
+
+pub returns : goal.returns
+returns c = λ is_name tokens a h d. derived_reads is_name d.2 h

@@ -1,0 +1,5 @@
+pub mod Shown
+pub mod Spelled
+pub mod Separate
+pub mod Readable
+pub mod Shorter

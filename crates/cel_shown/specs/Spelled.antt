@@ -1,0 +1,34 @@
+-- The bytes of pieces.
+use Rattle.std.specs.Prelude.{ℕ, Bool, true, false, if◌then◌else◌, ◌==◌, List, [], ◌∷◌, ◌++◌, codes}
+use Rattle.std.specs.Fmt.{decimal}
+use Rattle.cel_token.specs.Spelling.{spelling}
+use Rattle.cel_token.specs.declared.token.Kind.{Kind}
+use Rattle.cel_token.specs.declared.token.Kind.TheVariants as kind
+use Rattle.cel_shown.specs.Shown.{Piece, Blank, Word}
+
+-- a byte between double quotes: `"`, `\`, line feed, carriage return and tab are escaped
+abbrev pub escaped_byte : ℕ → List ℕ
+escaped_byte c =
+    if c == 34 then codes "\\\""
+    else (if c == 92 then codes "\\\\"
+    else (if c == 10 then codes "\\n" else (if c == 13 then codes "\\r" else (if c == 9 then codes "\\t" else c ∷ []))))
+
+abbrev pub escaped : List ℕ → List ℕ
+escaped [] = []
+escaped (c ∷ text) = escaped_byte c ++ escaped text
+
+abbrev pub spelled : Kind → List ℕ
+spelled (kind.Sign x) = spelling x
+spelled (kind.Truth true) = codes "true"
+spelled (kind.Truth false) = codes "false"
+spelled (kind.Number n) = decimal n
+spelled (kind.Str text) = 34 ∷ (escaped text ++ 34 ∷ [])
+spelled (kind.Name name) = name
+
+abbrev pub piece_text : Piece → List ℕ
+piece_text Blank = 32 ∷ []
+piece_text (Word k) = spelled k
+
+abbrev pub bytes_of : List Piece → List ℕ
+bytes_of [] = []
+bytes_of (p ∷ ps) = piece_text p ++ bytes_of ps

@@ -1,0 +1,4 @@
+pub mod Whole
+pub mod One
+pub mod Names
+pub mod Again

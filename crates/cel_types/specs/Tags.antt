@@ -1,0 +1,55 @@
+-- What tag functions and attributes give in a context.
+use Rattle.std.specs.Prelude.{ℕ, Bool, false, is_some, find, Option, Some, None, List, [], ◌∷◌, ◌++◌, codes}
+use Rattle.std.specs.Fmt.{decimal}
+use Rattle.std.specs.Str.{bytes_eq}
+use Rattle.cel_value.specs.Keys.{key_named}
+use Rattle.cel_value.specs.declared.context.Context.{Context}
+use Rattle.cel_value.specs.declared.context.KeyFact.{KeyFact}
+use Rattle.cel_value.specs.declared.context.ValueFact.{ValueFact}
+use Rattle.cel_value.specs.declared.value.EvalFault.TheVariants.{UnknownTag}
+use Rattle.cel_value.specs.declared.value.Outcome.{Outcome}
+use Rattle.cel_value.specs.declared.value.Outcome.TheVariants.{Given, Stopped}
+use Rattle.cel_value.specs.declared.value.Value.TheVariants as value
+use Rattle.cel_types.specs.declared.form.Attribute.{Attribute}
+use Rattle.cel_types.specs.declared.form.Attribute.TheVariants.{ResourceType, ResourceService, ResourceName, RequestTime, PrincipalType, PrincipalSubject}
+use Rattle.cel_types.specs.declared.form.TagFunction.{TagFunction}
+use Rattle.cel_types.specs.declared.form.TagFunction.TheVariants.{MatchTag, MatchTagId, HasTagKey, HasTagKeyId}
+use Rattle.cel_types.specs.Bounds.{time_outcome, nanos_of_seconds}
+
+abbrev pub key_id : KeyFact → List ℕ
+key_id key = codes "tagKeys/" ++ decimal key.number
+
+abbrev pub value_id : ValueFact → List ℕ
+value_id fact = codes "tagValues/" ++ decimal fact.number
+
+-- the first key with the id
+abbrev pub key_with_id : List ℕ → List KeyFact → Option KeyFact
+key_with_id id keys = find (λ key. bytes_eq (key_id key) id) keys
+
+abbrev pub has_short : List ℕ → Option ValueFact → Bool
+has_short short None = false
+has_short short (Some fact) = bytes_eq fact.short short
+
+abbrev pub has_id : List ℕ → Option ValueFact → Bool
+has_id id None = false
+has_id id (Some fact) = bytes_eq (value_id fact) id
+
+abbrev pub of_key : Option KeyFact → (Option ValueFact → Bool) → Outcome
+of_key None test = Stopped UnknownTag
+of_key (Some key) test = Given (value.Bool (test key.value))
+
+-- a tag function with its arguments; other numbers of arguments have no kind
+abbrev pub tag_outcome : Context → TagFunction → List (List ℕ) → Outcome
+tag_outcome c MatchTag (key ∷ short ∷ []) = of_key (key_named key c.keys) (has_short short)
+tag_outcome c MatchTagId (key ∷ id ∷ []) = of_key (key_with_id key c.keys) (has_id id)
+tag_outcome c HasTagKey (key ∷ []) = of_key (key_named key c.keys) (λ fact. is_some fact)
+tag_outcome c HasTagKeyId (key ∷ []) = of_key (key_with_id key c.keys) (λ fact. is_some fact)
+tag_outcome c _ _ = Stopped UnknownTag
+
+abbrev pub attribute_outcome : Context → Attribute → Outcome
+attribute_outcome c ResourceType = Given (value.Str c.resource_kind)
+attribute_outcome c ResourceService = Given (value.Str c.resource_service)
+attribute_outcome c ResourceName = Given (value.Str c.resource_name)
+attribute_outcome c RequestTime = time_outcome (nanos_of_seconds c.moment.0)
+attribute_outcome c PrincipalType = Given (value.Str c.principal_kind)
+attribute_outcome c PrincipalSubject = Given (value.Str c.principal_subject)

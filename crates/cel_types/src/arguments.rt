@@ -1,0 +1,173 @@
+// The literals that some forms take as arguments.
+ghost use Rattle.std.specs.Prelude.{◌≡◌, ◌==◌, position};
+ghost use Rattle.cel_tree.specs.declared.tree.Expr.{out-Expr};
+ghost use Rattle.cel_types.specs.Arguments.{arguments_of, is_literal, are_literals, text_of, has_literals, has_template, has_zone};
+ghost use Rattle.cel_types.specs.Template.{is_single, is_apart, has_single_braces, has_name, is_template};
+ghost use Rattle.cel_types.specs.Zone.{two_digits, signed_minutes, offset_minutes, zone_minutes};
+
+use crate::Form;
+use cel_tree::Expr;
+
+/// The arguments of a call or a method.
+pub fn arguments_of(expr: &Expr) -> &[Expr]
+    ensures { result.now ≡ arguments_of (out-Expr expr.entry.now) }
+{
+    match expr {
+        Expr::Call(_, _, arguments) => arguments.as_slice(),
+        Expr::Method(_, _, _, arguments) => arguments.as_slice(),
+        _ => &[],
+    }
+}
+
+fn is_literal(expr: &Expr) -> bool
+    ensures { result ≡ is_literal (out-Expr expr.now) }
+{
+    matches!(expr, Expr::Str(..))
+}
+
+fn are_literals(exprs: &[Expr]) -> bool
+    ensures { result ≡ are_literals exprs.now }
+{
+    exprs.iter().all(is_literal)
+}
+
+/// The text of a string literal, and the empty one elsewhere.
+pub fn text_of(exprs: &[Expr]) -> &str
+    ensures { result.now ≡ text_of exprs.entry.now }
+{
+    match exprs {
+        [Expr::Str(_, text)] => text.as_str(),
+        _ => "",
+    }
+}
+
+/// Whether the arguments are string literals, where the form asks for that.
+pub fn has_literals(form: Form, arguments: &[Expr]) -> bool
+    ensures { result ≡ has_literals form arguments.now }
+{
+    match form {
+        Form::Tag(_) => are_literals(arguments),
+        Form::Extract => are_literals(arguments),
+        Form::PartIn(_) => are_literals(arguments),
+        _ => true,
+    }
+}
+
+/// Whether the argument of `extract` is a template.
+pub fn has_template(form: Form, arguments: &[Expr]) -> bool
+    ensures { result ≡ has_template form arguments.now }
+{
+    match form {
+        Form::Extract => is_template(text_of(arguments)),
+        _ => true,
+    }
+}
+
+/// Whether the argument of `getHours` and the like is a zone.
+pub fn has_zone(form: Form, arguments: &[Expr]) -> bool
+    ensures { result ≡ has_zone form arguments.now }
+{
+    match form {
+        Form::PartIn(_) => zone_minutes(text_of(arguments)).is_some(),
+        _ => true,
+    }
+}
+
+// A byte stands exactly once in a text.
+fn is_single(bytes: &[u8], byte: u8) -> bool
+    ensures { result ≡ is_single byte bytes.now }
+{
+    bytes.iter().filter(|b| **b == byte).count() == 1
+}
+
+// Where a byte stands first in a text.
+fn place_of(bytes: &[u8], byte: u8) -> Option<usize>
+    ensures { result ≡ position (λ b. b == byte) bytes.now }
+{
+    bytes.iter().position(|b| *b == byte)
+}
+
+fn is_apart(opened: Option<usize>, closed: Option<usize>) -> bool
+    ensures { result ≡ is_apart opened closed }
+{
+    let Some(opened) = opened else {
+        return false;
+    };
+    let Some(closed) = closed else {
+        return false;
+    };
+    opened < closed && closed - opened > 1
+}
+
+fn has_single_braces(bytes: &[u8]) -> bool
+    ensures { result ≡ has_single_braces bytes.now }
+{
+    is_single(bytes, b'{') && is_single(bytes, b'}')
+}
+
+fn has_name(bytes: &[u8]) -> bool
+    ensures { result ≡ has_name bytes.now }
+{
+    is_apart(place_of(bytes, b'{'), place_of(bytes, b'}'))
+}
+
+/// Whether a text has exactly one `{name}` and no other brace. The name has a character or more.
+pub fn is_template(text: &str) -> bool
+    ensures { result ≡ is_template text.now }
+{
+    has_single_braces(text.as_bytes()) && has_name(text.as_bytes())
+}
+
+fn two_digits(tens: u8, ones: u8) -> Option<u8>
+    ensures { result ≡ two_digits tens ones }
+{
+    if !tens.is_ascii_digit() {
+        return None;
+    }
+    if !ones.is_ascii_digit() {
+        return None;
+    }
+    Some(10 * (tens - b'0') + (ones - b'0'))
+}
+
+fn signed_minutes(sign: u8, hours: u8, minutes: u8) -> Option<i16>
+    ensures { result ≡ signed_minutes sign hours minutes }
+{
+    if hours > 23 || minutes > 59 {
+        return None;
+    }
+    let minutes = 60 * i16::from(hours) + i16::from(minutes);
+    match sign {
+        b'+' => Some(minutes),
+        b'-' => Some(-minutes),
+        _ => None,
+    }
+}
+
+/// The minutes of an offset `+HH:MM` or `-HH:MM`.
+pub fn offset_minutes(text: &[u8]) -> Option<i16>
+    ensures { result ≡ offset_minutes text.now }
+{
+    match text {
+        [sign, a, b, colon, c, d] => {
+            if *colon != b':' {
+                return None;
+            }
+            let hours = two_digits(*a, *b)?;
+            let minutes = two_digits(*c, *d)?;
+            signed_minutes(*sign, hours, minutes)
+        }
+        _ => None,
+    }
+}
+
+/// How many minutes a zone's clock is ahead of UTC.
+pub fn zone_minutes(zone: &str) -> Option<i16>
+    ensures { result ≡ zone_minutes zone.now }
+{
+    if zone == "UTC" {
+        Some(0)
+    } else {
+        offset_minutes(zone.as_bytes())
+    }
+}

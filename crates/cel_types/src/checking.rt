@@ -1,0 +1,248 @@
+ghost use Rattle.std.specs.Prelude.{◌≡◌, ◌↔◌, IsOk, IfOk, IfErr, MatchResult};
+ghost use Rattle.cel_tree.specs.declared.tree.Expr.{out-Expr};
+ghost use Rattle.cel_types.specs.HasKind.{HasKind, FirstFault, FirstFaultAmong, IsFaultOf, children};
+ghost use Rattle.cel_types.specs.Nodes.{node_kind, HaveKindsFrom, AreKinds};
+ghost use Rattle.cel_types.specs.Table.{truth};
+
+use crate::arguments::{arguments_of, has_literals, has_template, has_zone};
+use crate::form::{attribute_of, form_of, is_whole};
+use crate::kind::Kinds;
+use crate::place::stands_in;
+use crate::table::{TRUTH, is_kind, kind_from};
+use crate::{Kind, Place};
+use cel_tree::Expr;
+use std::marker::Model;
+
+/// What is wrong with a node, or with the whole expression.
+#[derive(Clone, Copy, Debug, PartialEq, Eq)]
+pub enum TypeKind {
+    /// There is no such form, or not with this number of arguments.
+    UnknownName,
+    /// The form doesn't stand in this place.
+    NotHere,
+    /// An argument is no string literal.
+    NotLiteral,
+    /// The argument of `extract` has not exactly one `{name}`.
+    BadTemplate,
+    /// The argument of `getHours` and the like is no zone.
+    BadZone,
+    /// The parts are of other kinds than the form asks for.
+    WrongKind,
+    /// The whole is of another kind than Bool.
+    NotBool,
+}
+
+/// The first fault of an expression, at the first byte of its node.
+#[derive(Clone, Copy, Debug, PartialEq, Eq)]
+pub struct TypeFault {
+    pub offset: u32,
+    pub kind: TypeKind,
+}
+
+/// An expression in a place where it is a condition: its kind there is Bool.
+#[derive(Debug, Drop)]
+pub struct Typed {
+    expr: Expr,
+    place: Place,
+}
+
+impl Model for Typed {
+    ghost use Rattle.cel_types.specs.Condition.{Condition};
+    ghost use Rattle.cel_types.specs.HasKind.{HasKind};
+    ghost use Rattle.cel_types.specs.Table.{truth};
+    ghost use Rattle.cel_tree.specs.contracts.tree.Expr as trees;
+    ghost use Rattle.std.specs.Coded.{codes};
+
+    ghost Value = { Condition };
+
+    ghost coded = { Prim.hlevel (codes, trees.the_row.coded) };
+
+    ghost view = { λ t. record { expr = t.expr; place = t.place } };
+
+    ghost invariant = { λ t. HasKind t.place t.expr truth };
+}
+
+impl Typed {
+    /// Its kind in its place is Bool.
+    pub fn expr(&self) -> &Expr
+        ensures value { result.now ≡ self.now.expr }
+        ensures typed { HasKind self.now.place self.now.expr truth }
+    {
+        &self.expr
+    }
+
+    pub fn place(&self) -> Place
+        ensures { result ≡ self.now.place }
+    {
+        self.place
+    }
+}
+
+/// Whether an expression is a condition in a place. One that isn't is dropped.
+pub fn check(expr: Expr, place: Place) -> Result<Typed, TypeFault>
+    ensures exact { IsOk result ↔ HasKind place expr truth }
+    ensures typed { IfOk result (λ t. (t.expr ≡ expr) × (t.place ≡ place)) }
+    ensures fault { IfErr result (IsFaultOf place expr) }
+{
+    match kind_of(&expr, place) {
+        Ok(kind) => {
+            if is_kind(kind, TRUTH) {
+                return Ok(Typed { expr, place });
+            }
+            Err(TypeFault {
+                offset: expr.span().from,
+                kind: TypeKind::NotBool,
+            })
+        }
+        Err(fault) => Err(fault),
+    }
+}
+
+// The kind of a node whose parts have these kinds, or what is wrong with it.
+fn node_kind(expr: &Expr, place: Place, kinds: Kinds) -> Result<Kind, TypeKind>
+    ensures { result ≡ node_kind place (out-Expr expr.now) kinds }
+{
+    let Some(form) = form_of(expr) else {
+        return Err(TypeKind::UnknownName);
+    };
+    if !stands_in(place, form) {
+        return Err(TypeKind::NotHere);
+    }
+    let arguments = arguments_of(expr);
+    if !has_literals(form, arguments) {
+        return Err(TypeKind::NotLiteral);
+    }
+    if !has_template(form, arguments) {
+        return Err(TypeKind::BadTemplate);
+    }
+    if !has_zone(form, arguments) {
+        return Err(TypeKind::BadZone);
+    }
+    match kind_from(form, kinds) {
+        Some(kind) => Ok(kind),
+        None => Err(TypeKind::WrongKind),
+    }
+}
+
+#[cycle(kinds)]
+fn kind_of(expr: &Expr, place: Place) -> Result<Kind, TypeFault>
+    ensures { MatchResult result (HasKind place expr.now) (FirstFault place expr.now) }
+{
+    let kinds = kinds_below(expr, place)?;
+    match node_kind(expr, place, kinds) {
+        Ok(kind) => Ok(kind),
+        Err(kind) => Err(TypeFault {
+            offset: expr.span().from,
+            kind,
+        }),
+    }
+}
+
+// The kinds of the parts of a node.
+#[cycle(kinds)]
+fn kinds_below(expr: &Expr, place: Place) -> Result<Kinds, TypeFault>
+    ensures { MatchResult result (AreKinds place (children expr.now)) (FirstFaultAmong place (children expr.now)) }
+{
+    match expr {
+        Expr::Bool(..) => Ok(Kinds::None),
+        Expr::Int(..) => Ok(Kinds::None),
+        Expr::Str(..) => Ok(Kinds::None),
+        Expr::Name(..) => Ok(Kinds::None),
+        Expr::Select(_, base, field) => {
+            let base = base.get();
+            if attribute_of(base, field.as_str()).is_some() {
+                return Ok(Kinds::None);
+            }
+            let kind = kind_of(base, place)?;
+            Ok(Kinds::One(kind))
+        }
+        Expr::Call(_, _, arguments) => kinds_from(Kinds::None, arguments.as_slice(), place),
+        Expr::Method(_, base, name, arguments) => {
+            let base = base.get();
+            if is_whole(base, name.as_str()) {
+                return Ok(Kinds::None);
+            }
+            let kind = kind_of(base, place)?;
+            kinds_from(Kinds::One(kind), arguments.as_slice(), place)
+        }
+        Expr::Many(_, items) => kinds_from(Kinds::None, items.as_slice(), place),
+        Expr::Not(_, operand) => {
+            let kind = kind_of(operand.get(), place)?;
+            Ok(Kinds::One(kind))
+        }
+        Expr::Neg(_, operand) => {
+            let kind = kind_of(operand.get(), place)?;
+            Ok(Kinds::One(kind))
+        }
+        Expr::Two(_, _, left, right) => {
+            let left = kind_of(left.get(), place)?;
+            let right = kind_of(right.get(), place)?;
+            Ok(Kinds::Two(left, right))
+        }
+        Expr::Pick(_, condition, picked, other) => {
+            let condition = kind_of(condition.get(), place)?;
+            let picked = kind_of(picked.get(), place)?;
+            let other = kind_of(other.get(), place)?;
+            Ok(Kinds::Three(condition, picked, other))
+        }
+    }
+}
+
+// Some kinds, and behind them those of a list of nodes.
+#[cycle(kinds)]
+fn kinds_from(kinds: Kinds, exprs: &[Expr], place: Place) -> Result<Kinds, TypeFault>
+    ensures { MatchResult result (HaveKindsFrom kinds place exprs.now) (FirstFaultAmong place exprs.now) }
+{
+    let mut kinds = kinds;
+    for expr in exprs {
+        let kind = kind_of(expr, place)?;
+        kinds = kinds.with(kind);
+    }
+    Ok(kinds)
+}
+
+#[cfg(test)]
+mod tests {
+    use super::*;
+    use cel_tree::{Boxed, Span};
+    use iam_text::{List, OutOfMemory, Text};
+    use std::alloc::Global;
+    use std::test::Fail;
+
+    fn span(from: u32, to: u32) -> Span {
+        Span { from, to }
+    }
+
+    // resource.hasTagKey('1000/env')
+    fn has_tag(alloc: Global) -> Result<Expr, OutOfMemory> {
+        let mut arguments = List::new(alloc);
+        arguments.push(Expr::Str(span(19, 29), Text::of(alloc, "1000/env")?))?;
+        let base = Boxed::new(alloc, Expr::Name(span(0, 8), Text::of(alloc, "resource")?))?;
+        let name = Text::of(alloc, "hasTagKey")?;
+        Ok(Expr::Method(span(0, 30), base, name, arguments))
+    }
+
+    fn fault_of(checked: &Result<Typed, TypeFault>) -> Option<TypeFault> {
+        match checked {
+            Ok(_) => None,
+            Err(fault) => Some(*fault),
+        }
+    }
+
+    #[test]
+    fn an_integer_is_no_condition(rt: HostRuntime) -> Result<(), Fail> {
+        let found = fault_of(&check(Expr::Int(span(0, 1), 1), Place::Allow));
+        let kind = TypeKind::NotBool;
+        assert_eq!(rt; found, Some(TypeFault { offset: 0, kind }));
+        Ok(())
+    }
+
+    #[test]
+    fn a_tag_function_stands_in_a_deny_rule(rt: HostRuntime) -> Result<(), Fail> {
+        assert_eq!(rt; fault_of(&check(has_tag(rt.alloc())?, Place::Deny)), None);
+        let kind = TypeKind::NotHere;
+        let bound = fault_of(&check(has_tag(rt.alloc())?, Place::Binding));
+        assert_eq!(rt; bound, Some(TypeFault { offset: 0, kind }));
+        Ok(())
+    }
+}

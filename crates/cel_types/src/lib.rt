@@ -1,0 +1,24 @@
+//! Kinds of condition expressions, and what an expression means in a context.
+//!
+//! `check` tells whether a tree is a condition in a place. Its contract is the relation `HasKind`: the answer is
+//! `Typed` exactly where the tree has the kind Bool there, and else the fault of the first node that has no kind,
+//! parts before the whole and left before right. The relation `Means` says what a tree comes to in a context, errors
+//! being outcomes: at most one thing, and for a condition a truth or a fault.
+#![tactic(auto)]
+
+mod arguments;
+mod checking;
+mod form;
+mod kind;
+mod laws;
+mod place;
+mod table;
+
+pub use arguments::{arguments_of, text_of, zone_minutes};
+pub use checking::{TypeFault, TypeKind, Typed, check};
+pub use form::{Attribute, Form, TagFunction, TimePart, attribute_of, form_of, is_whole};
+pub use kind::{Base, Kind, Place};
+pub use laws::{
+    at_most_one_fault, at_most_one_kind, at_most_one_outcome, conditions_come_to_truths,
+    conditions_have_no_fault, faults_have_no_kind, outcomes_are_of_the_kind,
+};

@@ -1,0 +1,5 @@
+pub mod Etags
+pub mod Bodies
+pub mod Members
+pub mod Floats
+pub mod Objects

@@ -1,0 +1,62 @@
+// What names, conditions and bindings are shown as.
+ghost use Rattle.std.specs.Prelude.{◌≡◌, IfOk};
+ghost use Rattle.serde_json.specs.View.{view};
+ghost use Rattle.iam_json_data.specs.Shown.{condition_data};
+
+use crate::print::{ToJson, list_value};
+use iam_names::{Member, PermissionName};
+use iam_text::OutOfMemory;
+use iam_types::{Binding, Condition};
+use serde_json::{Value, json};
+use std::alloc::Global;
+
+impl ToJson for PermissionName {
+    ghost use Rattle.iam_json_data.specs.Shown.{permission_data};
+
+    ghost shown = { permission_data };
+
+    fn to_json(&self, alloc: Global) -> Result<Value, OutOfMemory> {
+        Ok(Value::try_from_str(alloc, self.as_str())?)
+    }
+}
+
+impl ToJson for Member {
+    ghost use Rattle.iam_json_data.specs.Shown.{member_data};
+
+    ghost shown = { member_data };
+
+    fn to_json(&self, alloc: Global) -> Result<Value, OutOfMemory> {
+        let text = self.text(alloc)?;
+        Ok(Value::try_from_str(alloc, text.as_str())?)
+    }
+}
+
+fn condition_value(alloc: Global, condition: &Condition) -> Result<Value, OutOfMemory>
+    ensures { IfOk result (λ v. view v ≡ condition_data condition.now) }
+{
+    Ok(json!(in alloc; {
+        "description": condition.description.as_str(),
+        "expression": condition.expression.as_str(),
+        "title": condition.title.as_str()
+    })?)
+}
+
+impl ToJson for Binding {
+    ghost use Rattle.iam_json_data.specs.Shown.{binding_data};
+
+    ghost shown = { binding_data };
+
+    fn to_json(&self, alloc: Global) -> Result<Value, OutOfMemory> {
+        let members = list_value(alloc, self.members.as_slice())?;
+        let role = self.role.text(alloc)?;
+        match &self.condition {
+            None => Ok(json!(in alloc; {"members": members, "role": role.as_str()})?),
+            Some(condition) => {
+                let shown = condition_value(alloc, condition)?;
+                Ok(
+                    json!(in alloc; {"condition": shown, "members": members, "role": role.as_str()})?,
+                )
+            }
+        }
+    }
+}

@@ -1,0 +1,7 @@
+pub mod Behind
+pub mod Exact
+pub mod Forms
+pub mod Groups
+pub mod Numbers
+pub mod Parsing
+pub mod Parts

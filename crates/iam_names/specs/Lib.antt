@@ -1,0 +1,14 @@
+pub mod Bytes
+pub mod Caller
+pub mod Deny
+pub mod Digits
+pub mod Domain
+pub mod Email
+pub mod Member
+pub mod Node
+pub mod Number
+pub mod Permission
+pub mod Pool
+pub mod PrincipalSet
+pub mod Reading
+pub mod Role

@@ -1,0 +1,53 @@
+-- What is found of a row.
+use Rattle.std.specs.Prelude.{◌≡◌, ◌⊎◌, ℕ, List, Option, Some, None, Result, Ok, Err}
+use Rattle.serde_json.specs.Data.{Data}
+use Rattle.serde_json.specs.Read.{read}
+use Rattle.iam_names.specs.declared.node.NodeName.{NodeName}
+use Rattle.iam_names.specs.declared.node.NodeName.TheVariants.{Organization, Folder, ProjectNumber, ProjectId}
+use Rattle.iam_names.specs.declared.node.NodeKind.TheVariants.{Organization as AnOrganization}
+use Rattle.iam_types.specs.declared.allow.AllowPolicy.{AllowPolicy}
+use Rattle.iam_types.specs.declared.node.Org.{Org}
+use Rattle.iam_types.specs.declared.fact.Fact.{Fact}
+use Rattle.iam_outer.specs.declared.keeper.Row.{Row}
+use Rattle.iam_rows.specs.declared.stop.RowStop.{RowStop}
+use Rattle.iam_rows.specs.declared.stop.RowStop.TheVariants.{BadRow, OutOfMemory}
+use Rattle.iam_rows.specs.declared.body.OrgBody.{OrgBody}
+use Rattle.iam_rows.specs.declared.body.PolicyBody.{PolicyBody}
+use Rattle.iam_rows.specs.Facts.{IsFact}
+use Rattle.iam_rows.specs.Rows.{HasRow}
+
+-- a well formed one, and the only one that is meant, where there is one at all
+abbrev pub Guesses : {A : Type 0} → (A → Type 0) → (A → Type 0) → Result A RowStop → Type 0
+Guesses {A} IsFormed IsMeant (Ok found) = IsFormed found × ((kept : A) → IsMeant kept → found ≡ kept)
+Guesses {A} IsFormed IsMeant (Err BadRow) = (kept : A) → IsMeant kept → ⊥
+Guesses IsFormed IsMeant (Err OutOfMemory) = Unit {0}
+
+-- the only one that is meant; BadRow exactly where there is none
+abbrev pub Finds : {A : Type 0} → (A → Type 0) → Result A RowStop → Type 0
+Finds IsMeant = Guesses IsMeant IsMeant
+
+-- a well formed fact that has the row
+abbrev pub IsFactOf : Row → Fact → Type 0
+IsFactOf row fact = IsFact fact × HasRow fact row
+
+-- what the text of a body is read as
+abbrev pub ReadsRow : {A : Type 0} → (Data → Result A (List ℕ) → Type 0) → List ℕ → Result A RowStop → Type 0
+ReadsRow reads text (Ok value) = (d : Data) × (read text ≡ Some d) × reads d (Ok value)
+ReadsRow reads text (Err BadRow) = (read text ≡ None) ⊎ ((d : Data) × (path : List ℕ) × (read text ≡ Some d) × reads d (Err path))
+ReadsRow reads text (Err OutOfMemory) = Unit {0}
+
+-- the number of an organisation
+abbrev pub organization_of : Option NodeName → Option ℕ
+organization_of None = None
+organization_of (Some (Organization number)) = Some number
+organization_of (Some (Folder number)) = None
+organization_of (Some (ProjectNumber number)) = None
+organization_of (Some (ProjectId id)) = None
+
+-- the organisation of this number and body
+abbrev pub org_with : ℕ → OrgBody → Org
+org_with n body = record { number = n; domain = body.owner.domain; customer = body.owner.customer; next = body.counts.next; changes = body.counts.changes }
+
+-- the policy of the organisation of this number, by its body
+abbrev pub policy_with : ℕ → PolicyBody → AllowPolicy
+policy_with n body = record { node = record { kind = AnOrganization; number = n }; bindings = body.bindings; set = body.set }

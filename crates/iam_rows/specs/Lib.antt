@@ -1,0 +1,4 @@
+pub mod Bodies
+pub mod Facts
+pub mod Finding
+pub mod Rows

@@ -1,0 +1,200 @@
+// The fact of a row.
+ghost use Rattle.std.specs.Prelude.{◌≡◌, ◌≢◌, ◌↔◌, ◌<◌, ◌^◌, [], codes, IsTrue, IfOk};
+ghost use Rattle.iam_names.specs.Domain.{IsDomain, IsCustomer};
+ghost use Rattle.iam_names.specs.Node.{node_id_text};
+ghost use Rattle.iam_names.specs.Number.{IsNodeNumber};
+ghost use Rattle.iam_names.specs.Reading.{IsRead};
+ghost use Rattle.iam_json_data.specs.Printed.{printed};
+ghost use Rattle.iam_rows.specs.Facts.{Each, IsFact, IsKeptOrg, IsKeptPolicy};
+ghost use Rattle.iam_rows.specs.Rows.{org_name, org_data, policy_data, IsRow};
+ghost use Rattle.iam_rows.specs.Finding.{Guesses, Finds, IsFactOf, ReadsRow, org_with, policy_with, organization_of};
+
+use crate::body::{OrgBody, Owner, PolicyBody};
+use crate::row::row_of;
+use crate::stop::RowStop;
+use iam_json_data::{BodyStop, FromJson};
+use iam_names::{NodeId, NodeKind, NodeName, is_customer, is_domain};
+use iam_outer::Row;
+use iam_text::{OutOfMemory, Text};
+use iam_types::{AllowPolicy, Binding, Fact, Org};
+use serde_json::Value;
+use std::alloc::Global;
+
+fn read_row<T: FromJson + Drop>(alloc: Global, text: &str) -> Result<T, RowStop>
+    ensures { ReadsRow T.reads text.now result }
+{
+    match Value::from_str(alloc, text) {
+        Ok(value) => match T::from_json(alloc, &value) {
+            Ok(read) => Ok(read),
+            Err(BodyStop::OutOfMemory) => Err(RowStop::OutOfMemory),
+            Err(_) => Err(RowStop::BadRow),
+        },
+        Err(e) => {
+            if e.is_memory() {
+                return Err(RowStop::OutOfMemory);
+            }
+            Err(RowStop::BadRow)
+        }
+    }
+}
+
+fn number_of(name: Option<NodeName>) -> Option<u64>
+    ensures { result ≡ organization_of name }
+{
+    match name {
+        Some(NodeName::Organization(number)) => Some(number),
+        _ => None,
+    }
+}
+
+// The organisation that a row is named by.
+fn organization_of(alloc: Global, row: &Row) -> Result<Option<u64>, OutOfMemory>
+    ensures { IfOk result (IsRead IsNodeNumber org_name row.now.name) }
+{
+    let name = NodeName::read(alloc, row.name.as_str())?;
+    Ok(number_of(name))
+}
+
+fn has_forms(owner: &Owner) -> bool
+    ensures { IsTrue result ↔ (IsDomain owner.now.domain × IsCustomer owner.now.customer) }
+{
+    is_domain(owner.domain.as_str()) && is_customer(owner.customer.as_str())
+}
+
+fn org_with(number: u64, body: OrgBody) -> Org
+    ensures made { result ≡ org_with number body }
+    ensures small { (result.next < 2 ^ 64) × (result.changes < 2 ^ 64) }
+{
+    Org {
+        number,
+        domain: body.owner.domain,
+        customer: body.owner.customer,
+        next: body.counts.next,
+        changes: body.counts.changes,
+    }
+}
+
+fn org_from(alloc: Global, number: u64, text: &str) -> Result<Org, RowStop>
+    requires { IsNodeNumber number }
+    ensures { Guesses IsKeptOrg
+        (λ org. IsKeptOrg org × (org.number ≡ number) × (text.now ≡ printed (org_data org))) result }
+{
+    match read_row::<OrgBody>(alloc, text) {
+        Ok(body) => {
+            if has_forms(&body.owner) {
+                return Ok(org_with(number, body));
+            }
+            Err(RowStop::BadRow)
+        }
+        Err(stop) => Err(stop),
+    }
+}
+
+fn all_have_members(bindings: &[Binding]) -> bool
+    ensures { IsTrue result ↔ Each (λ binding. binding.members ≢ []) bindings.now }
+{
+    for binding in bindings {
+        if binding.members.is_empty() {
+            return false;
+        }
+    }
+    true
+}
+
+fn policy_with(number: u64, body: PolicyBody) -> AllowPolicy
+    ensures made { result ≡ policy_with number body }
+    ensures small { result.set < 2 ^ 64 }
+{
+    AllowPolicy {
+        node: NodeId {
+            kind: NodeKind::Organization,
+            number,
+        },
+        bindings: body.bindings,
+        set: body.set,
+    }
+}
+
+fn policy_from(alloc: Global, number: u64, text: &str) -> Result<AllowPolicy, RowStop>
+    requires { IsNodeNumber number }
+    ensures { Guesses IsKeptPolicy (λ policy. IsKeptPolicy policy × (policy.node.number ≡ number)
+        × (text.now ≡ printed (policy_data policy))) result }
+{
+    match read_row::<PolicyBody>(alloc, text) {
+        Ok(body) => {
+            if all_have_members(body.bindings.as_slice()) {
+                return Ok(policy_with(number, body));
+            }
+            Err(RowStop::BadRow)
+        }
+        Err(stop) => Err(stop),
+    }
+}
+
+fn org_like(alloc: Global, row: &Row) -> Result<Org, RowStop>
+    ensures { Guesses IsKeptOrg
+        (λ org. IsKeptOrg org × IsRow (codes "org") (org_name org.number) (org_data org) row.now) result }
+{
+    match organization_of(alloc, row)? {
+        Some(number) => org_from(alloc, number, row.body.as_str()),
+        None => Err(RowStop::BadRow),
+    }
+}
+
+fn policy_like(alloc: Global, row: &Row) -> Result<AllowPolicy, RowStop>
+    ensures { Guesses IsKeptPolicy
+        (λ policy. IsKeptPolicy policy × IsRow (codes "allow") (node_id_text policy.node) (policy_data policy) row.now) result }
+{
+    match organization_of(alloc, row)? {
+        Some(number) => policy_from(alloc, number, row.body.as_str()),
+        None => Err(RowStop::BadRow),
+    }
+}
+
+fn is_part(row: &Row, part: &str) -> bool
+    ensures { IsTrue result ↔ (row.now.part ≡ part.now) }
+{
+    row.part.as_str() == part
+}
+
+fn fact_like(alloc: Global, row: &Row) -> Result<Fact, RowStop>
+    ensures { Guesses IsFact (IsFactOf row.now) result }
+{
+    if is_part(row, "org") {
+        return match org_like(alloc, row) {
+            Ok(org) => Ok(Fact::Org(org)),
+            Err(stop) => Err(stop),
+        };
+    }
+    if is_part(row, "allow") {
+        return match policy_like(alloc, row) {
+            Ok(policy) => Ok(Fact::Allow(policy)),
+            Err(stop) => Err(stop),
+        };
+    }
+    Err(RowStop::BadRow)
+}
+
+fn same_text(a: &Text, b: &Text) -> bool
+    ensures { IsTrue result ↔ (a.now ≡ b.now) }
+{
+    a.as_str() == b.as_str()
+}
+
+fn same_row(a: &Row, b: &Row) -> bool
+    ensures { IsTrue result ↔ ((a.now.part ≡ b.now.part) × (a.now.name ≡ b.now.name) × (a.now.body ≡ b.now.body)) }
+{
+    same_text(&a.part, &b.part) && same_text(&a.name, &b.name) && same_text(&a.body, &b.body)
+}
+
+/// The fact that a row keeps. The row has to be its row byte for byte.
+pub fn fact_of(alloc: Global, row: &Row) -> Result<Fact, RowStop>
+    ensures { Finds (IsFactOf row.now) result }
+{
+    let fact = fact_like(alloc, row)?;
+    let again = row_of(alloc, &fact)?;
+    if same_row(&again, row) {
+        return Ok(fact);
+    }
+    Err(RowStop::BadRow)
+}

@@ -1,0 +1,5 @@
+pub mod Bodies
+pub mod Inputs
+pub mod Options
+pub mod Pieces
+pub mod Requests

@@ -1,0 +1,4 @@
+pub mod Applying
+pub mod Counts
+pub mod Fitting
+pub mod Named

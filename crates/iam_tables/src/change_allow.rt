@@ -1,0 +1,78 @@
+// The setting of an allow policy.
+ghost use Rattle.std.specs.Prelude.{◌≡◌, ◌+◌, ◌<◌, ◌^◌, IfOk, OnOk, OnErr, filter};
+ghost use Rattle.iam_model.specs.ApplyAllow.{after_set_allow, policy_after as the_policy_after, set_policy as tables_with};
+ghost use Rattle.iam_model.specs.Good.{has_members as some_members};
+
+use crate::place::put_policy;
+use crate::reading::resolve;
+use iam_names::{NodeId, NodeName};
+use iam_text::{List, OutOfMemory};
+use iam_types::{AllowPolicy, Binding, Tables, copy_binding};
+use std::alloc::Global;
+
+fn has_members(binding: &Binding) -> bool
+    ensures { result ≡ some_members binding.now }
+{
+    !binding.members.as_slice().is_empty()
+}
+
+fn with_members(alloc: Global, bindings: &[Binding]) -> Result<List<Binding>, OutOfMemory>
+    ensures { IfOk result (λ kept. kept ≡ filter some_members bindings.now) }
+{
+    let mut kept = List::new(alloc);
+    for binding in bindings {
+        if has_members(binding) {
+            kept.push(copy_binding(binding)?)?;
+        }
+    }
+    Ok(kept)
+}
+
+/// The policy that a node gets.
+pub fn policy_after(
+    alloc: Global,
+    tables: &Tables,
+    node: NodeId,
+    bindings: &List<Binding>,
+) -> Result<AllowPolicy, OutOfMemory>
+    requires { tables.now.org.changes + 1 < 2 ^ 64 }
+    ensures { IfOk result (λ policy. policy ≡ the_policy_after tables.now node bindings.now) }
+{
+    Ok(AllowPolicy {
+        node,
+        bindings: with_members(alloc, bindings.as_slice())?,
+        set: tables.org.changes + 1,
+    })
+}
+
+fn set_policy(
+    tables: &mut Tables,
+    alloc: Global,
+    node: NodeId,
+    bindings: &List<Binding>,
+) -> Result<(), OutOfMemory>
+    requires { tables.old.org.changes + 1 < 2 ^ 64 }
+    ensures ok { OnOk result (tables.new ≡ tables_with tables.old node bindings.now) }
+    ensures err { OnErr result (tables.new ≡ tables.old) }
+{
+    let policy = policy_after(alloc, tables, node, bindings)?;
+    put_policy(alloc, &mut tables.allows, policy)?;
+    tables.org.changes += 1;
+    Ok(())
+}
+
+pub fn set_allow(
+    tables: &mut Tables,
+    alloc: Global,
+    name: &NodeName,
+    bindings: &List<Binding>,
+) -> Result<(), OutOfMemory>
+    requires { tables.old.org.changes + 1 < 2 ^ 64 }
+    ensures ok { OnOk result (tables.new ≡ after_set_allow tables.old name.now bindings.now) }
+    ensures err { OnErr result (tables.new ≡ tables.old) }
+{
+    match resolve(tables, name) {
+        None => Ok(()),
+        Some(node) => set_policy(tables, alloc, node, bindings),
+    }
+}

@@ -1,0 +1,4 @@
+pub mod formers
+pub mod Moments
+pub mod Places
+pub mod Put

@@ -1,0 +1,55 @@
+ghost use Rattle.std.specs.Prelude.{◌≡◌, IfOk};
+
+use iam_names::{Member, NodeId, RoleName};
+use iam_text::{List, OutOfMemory, Text};
+
+/// An IAM condition: an expression of the Common Expression Language, with a title and a description.
+#[derive(Clone, Drop)]
+pub struct Condition {
+    pub expression: Text,
+    pub title: Text,
+    pub description: Text,
+}
+
+/// A role that is granted to members, where the condition holds.
+#[derive(Clone, Drop)]
+pub struct Binding {
+    pub role: RoleName,
+    pub members: List<Member>,
+    pub condition: Option<Condition>,
+}
+
+/// The allow policy of a node; `set` is the number of the change that set it, and its etag.
+#[derive(Clone, Drop)]
+pub struct AllowPolicy {
+    pub node: NodeId,
+    pub bindings: List<Binding>,
+    pub set: u64,
+}
+
+pub fn copy_condition(condition: &Condition) -> Result<Condition, OutOfMemory>
+    ensures { IfOk result (λ copy. copy ≡ condition.now) }
+{
+    match condition.clone() {
+        Ok(copy) => Ok(copy),
+        Err(_) => Err(OutOfMemory),
+    }
+}
+
+pub fn copy_binding(binding: &Binding) -> Result<Binding, OutOfMemory>
+    ensures { IfOk result (λ copy. copy ≡ binding.now) }
+{
+    match binding.clone() {
+        Ok(copy) => Ok(copy),
+        Err(_) => Err(OutOfMemory),
+    }
+}
+
+pub fn copy_policy(policy: &AllowPolicy) -> Result<AllowPolicy, OutOfMemory>
+    ensures { IfOk result (λ copy. copy ≡ policy.now) }
+{
+    match policy.clone() {
+        Ok(copy) => Ok(copy),
+        Err(_) => Err(OutOfMemory),
+    }
+}

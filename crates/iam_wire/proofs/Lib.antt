@@ -1,0 +1,4 @@
+pub mod Named
+pub mod Digits
+pub mod Plains
+pub mod Lists
