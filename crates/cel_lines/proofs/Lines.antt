@@ -1,34 +1,57 @@
--- A text has one answer, and a line says it.
-use Rattle.std.proofs.Common.{◌≡◌, ℕ, List, Result, Ok, Err, IfOk, IsErr, refl, ap, ◌∙◌}
-use Rattle.std.proofs.lemmas.Result.{IfOk-weaker, IfOk-from_err}
-use Rattle.cel_tree.specs.declared.tree.Expr.{Expr}
-use Rattle.cel_syntax.specs.declared.fault.SyntaxFault.{SyntaxFault}
-use Rattle.cel_syntax.specs.declared.fault.ReadStop.{ReadStop}
-use Rattle.cel_syntax.specs.declared.fault.ReadStop.TheVariants.{Syntax, OutOfMemory}
-use Rattle.cel_syntax.specs.CelText.{CelText, Faults, Answers, Gives}
+-- A line's bytes, and the answers to texts and lines.
+use Rattle.std.proofs.Common.{◌≡◌, ℕ, ◌-◌, ◌<◌, ◌≤◌, List, [], ◌∷◌, ◌++◌, length, get_or, take, drop, Option, Result, IfOk, sym, subst, ◌∙◌, append_assoc, append-nil, arith}
+use Rattle.std.proofs.lemmas.List.{take_rest}
+use Rattle.std.proofs.lemmas.Result.{IfOk-weaker}
+use Rattle.std.specs.Str.{IsUtf8}
+use Rattle.cel_types.specs.declared.kind.Place.{Place}
+use Rattle.cel_lines.specs.Answers as answers
+use Rattle.cel_lines.specs.Answers.{Answer, LineAnswer}
+use Rattle.cel_lines.specs.Escapes.{front, StandsFor}
+use Rattle.cel_lines.specs.Escapes as spec
 
--- a line, if one is made, that is right in any case
-always : {X E : Type 0} (r : Result X E) (P : X → Type 0) → ((x : X) → P x) → IfOk r P
-always (Ok x) P h = h x
-always (Err e) P h = tt
+-- with these bytes before it, what the rest of a line stands for is what the whole stands for
+abbrev pub SoFar : List ℕ → List ℕ → List ℕ → Type 0
+SoFar line found left = (bytes : List ℕ) → StandsFor left bytes → StandsFor line (found ++ bytes)
 
--- the line of a tree
-pub tree_said : {X E : Type 0} (r : Result X E) (bytes : X → List ℕ) (says : Expr → List ℕ) (text : List ℕ) (tree : Expr) → IfOk r (λ x. bytes x ≡ says tree)
-    → ((a : Expr) → CelText text a → tree ≡ a) → IfOk r (λ x. (a : Expr) → CelText text a → bytes x ≡ says a)
-tree_said r bytes says text tree h one = IfOk-weaker r _ _ (λ x e a d. e ∙ ap says (one a d)) h
+pub record IsSoFar (line found left : List ℕ) : Type 0 where
+  pub whole : SoFar line found left
 
-pub tree_no_fault : {X E : Type 0} (r : Result X E) (bytes : X → List ℕ) (says : SyntaxFault → List ℕ) (text : List ℕ) (tree : Expr) → CelText text tree
-    → ((text : List ℕ) (a : Expr) (f : SyntaxFault) → CelText text a → Faults text f → ⊥) → IfOk r (λ x. (f : SyntaxFault) → Faults text f → bytes x ≡ says f)
-tree_no_fault r bytes says text tree c apart = always r _ (λ x f d. absurd (apart text tree f c d))
+turn : (line found rest : List ℕ) (first byte more : ℕ) → (byte, more) ≡ front first rest → IsSoFar line found (first ∷ rest)
+    → IsSoFar line (found ++ byte ∷ []) (drop more rest)
+turn line found rest first byte more e s = record {
+  whole = λ bytes h.
+      let step : StandsFor (first ∷ rest) (byte ∷ bytes) = subst (λ p. StandsFor (drop p.1 rest) bytes → StandsFor (first ∷ rest) (p.0 ∷ bytes)) (sym e) spec.more h in
+      subst (StandsFor line) (sym (append_assoc found (byte ∷ []) bytes)) (s.whole (byte ∷ bytes) step);
+}
 
--- the line of a stop
-pub stop_no_tree : {X E : Type 0} (r : Result X E) (bytes : X → List ℕ) (says : Expr → List ℕ) (text : List ℕ) (stop : ReadStop) → ((a : Expr) → CelText text a → Gives a (Err stop))
-    → (stop ≡ OutOfMemory → IsErr r) → IfOk r (λ x. (a : Expr) → CelText text a → bytes x ≡ says a)
-stop_no_tree r bytes says text (Syntax f) never refused = always r _ (λ x a d. absurd (never a d))
-stop_no_tree r bytes says text OutOfMemory never refused = IfOk-from_err r _ (refused refl)
+-- the same, of the slices that a turn of the loop makes
+pub turn_of_slices : (line found pushed left : List ℕ) (made : ℕ × ℕ) → 1 ≤ length left → pushed ≡ found ++ made.0 ∷ []
+    → made ≡ front (get_or left 0 0) (take (length left - 1) (drop 1 left)) → IsSoFar line found left
+    → IsSoFar line pushed (take (length (take (length left - 1) (drop 1 left)) - made.1) (drop made.1 (take (length left - 1) (drop 1 left))))
+turn_of_slices line found pushed [] made l p e s = absurd (omega (arith, l))
+turn_of_slices line found pushed (first ∷ rest) made l p e s =
+    let same : take (length (first ∷ rest) - 1) (drop 1 (first ∷ rest)) ≡ rest = take_rest (first ∷ rest) 1 in
+    let is : made ≡ front first rest = subst (λ (z : List ℕ). made ≡ front first z) same e in
+    rw (p, same, take_rest rest made.1) (turn line found rest first made.0 made.1 is s)
 
-pub fault_said : {X E : Type 0} (r : Result X E) (bytes : X → List ℕ) (says : SyntaxFault → List ℕ) (text : List ℕ) (stop : ReadStop) → Answers text (Err stop)
-    → ((f : SyntaxFault) → stop ≡ Syntax f → IfOk r (λ x. bytes x ≡ says f)) → (stop ≡ OutOfMemory → IsErr r)
-    → ((text : List ℕ) (f g : SyntaxFault) → Faults text f → Faults text g → f ≡ g) → IfOk r (λ x. (f : SyntaxFault) → Faults text f → bytes x ≡ says f)
-fault_said r bytes says text (Syntax f) c said refused one = IfOk-weaker r _ _ (λ x e g d. e ∙ ap says (one text f g c d)) (said f refl)
-fault_said r bytes says text OutOfMemory c said refused one = IfOk-from_err r _ (refused refl)
+pub finish : (line found left : List ℕ) → length left < 1 → IsSoFar line found left → StandsFor line found
+finish line found [] l s = subst (StandsFor line) (append-nil found) (s.whole [] spec.end)
+finish line found (b ∷ left) l s = absurd (omega (arith, l))
+
+-- what is said of the line that was wanted is said of the line that was made
+pub said : {X E : Type 0} (r : Result X E) (bytes : X → List ℕ) (line wanted : List ℕ) (P : List ℕ → Type 0) → IfOk r (λ x. bytes x ≡ line)
+    → line ≡ wanted → P wanted → IfOk r (λ x. P (bytes x))
+said r bytes line wanted P h e p = IfOk-weaker r _ _ (λ x k. subst P (sym (k ∙ e)) p) h
+
+-- the answer to the text that a line stands for
+pub line_said : {X E : Type 0} (r : Result X E) (bytes : X → List ℕ) (place : Option Place) (given line held text : List ℕ) → StandsFor given held
+    → given ≡ line → text ≡ held → IsUtf8 text → IfOk r (λ x. Answer place text (bytes x)) → IfOk r (λ x. LineAnswer place line (bytes x))
+line_said r bytes place given line held text s g e u h =
+    let stands : StandsFor line text = subst (λ (z : List ℕ). StandsFor line z) (sym e) (subst (λ (z : List ℕ). StandsFor z held) g s) in
+    IfOk-weaker r _ _ (λ x k. answers.text stands u k) h
+
+-- a line that has one answer is given no other one
+pub no_other : {X E : Type 0} (r : Result X E) (bytes : X → List ℕ) (place : Option Place) (line : List ℕ)
+    → ((place : Option Place) (line answer other : List ℕ) → LineAnswer place line answer → LineAnswer place line other → answer ≡ other)
+    → IfOk r (λ x. LineAnswer place line (bytes x)) → IfOk r (λ x. (other : List ℕ) → LineAnswer place line other → bytes x ≡ other)
+no_other r bytes place line one h = IfOk-weaker r _ _ (λ x k other d. one place line (bytes x) other k d) h

@@ -8,8 +8,13 @@
 
 mod answer;
 mod escapes;
+mod laws;
+#[cfg(test)]
+mod tests;
 
 use cel_types::Place;
+use iam_text::OutOfMemory;
+use std::alloc::AllocError;
 use std::rt::Env;
 use std::{env, io};
 
@@ -26,8 +31,10 @@ fn place(rt: &(impl Env + AllocGlobal)) -> io::Result<Option<Place>> {
 fn main(rt: HostRuntime) -> io::Result<()> {
     let place = place(&rt)?;
     for line in rt.lines(rt.alloc()) {
-        let answer = answer::line_answer(rt.alloc(), place, line?.as_str())?;
-        println!(rt; "{answer}")?;
+        match answer::line_answer(rt.alloc(), place, line?.as_str()) {
+            Ok(answer) => println!(rt; "{answer}")?,
+            Err(OutOfMemory) => return Err(AllocError.into()),
+        }
     }
     Ok(())
 }

@@ -8,6 +8,8 @@
 mod fault;
 mod limits;
 mod printing;
+#[cfg(test)]
+mod tests;
 mod texts;
 
 pub use cel_tree::{Boxed, Expr, Op, Span};
