@@ -1,5 +1,5 @@
 -- The bodies of requests.
-use Rattle.std.specs.Prelude.{◌≡◌, ◌≢◌, ⊤, ℕ, ◌<◌, ◌^◌, List, [], Option, Some, None, unwrap_or, option_map, Result, Ok, Err, codes}
+use Rattle.std.specs.Prelude.{◌≡◌, ◌≢◌, ℕ, ◌<◌, ◌^◌, List, [], Option, Some, None, unwrap_or, option_map, Result, Ok, Err, codes}
 use Rattle.serde_json.specs.Data.{Data, no_items}
 use Rattle.serde_json.specs.Find.{as_str, as_array}
 use Rattle.iam_names.specs.Permission.{IsPermission, permission_text}
@@ -19,7 +19,7 @@ Made make reads (Err path) = reads (Err path)
 
 -- the text of a number of 64 bits
 abbrev pub ReadsEtag : Data → Result Etag (List ℕ) → Type 0
-ReadsEtag d (Ok etag) = as_str d ≡ Some (etag_text_of etag.number)
+ReadsEtag d (Ok etag) = (etag.number < 2 ^ 64) × (as_str d ≡ Some (etag_text_of etag.number))
 ReadsEtag d (Err path) = (path ≡ []) × ((number : ℕ) → number < 2 ^ 64 → as_str d ≢ Some (etag_text_of number))
 
 -- an empty list

@@ -28,3 +28,7 @@ ReadsLine line node d said =
 
 abbrev pub ReadsCall : Route → Data → Result Call (List ℕ) → Type 0
 ReadsCall route d said = (node : NodeName) × NamesNode route.parts node × ReadsLine route.number node d said
+
+-- the data gives at most one call on a line with a node, or one path of a bad member
+abbrev pub AtMostOneCall : Type 0
+AtMostOneCall = (line : ℕ) (node : NodeName) (d : Data) (said other : Result Call (List ℕ)) → ReadsLine line node d said → ReadsLine line node d other → said ≡ other

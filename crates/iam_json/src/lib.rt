@@ -8,6 +8,7 @@
 mod answer;
 mod call;
 mod details;
+mod laws;
 mod line;
 mod policy;
 mod reply;
@@ -16,4 +17,5 @@ pub use answer::answer_body;
 pub use call::{Call, Route, read_call};
 pub use details::Details;
 pub use iam_json_data::{BodyStop, etag_number, etag_text};
+pub use laws::one_call;
 pub use reply::{ErrorReply, code_of, error_body, refusal_code};

@@ -59,3 +59,10 @@ some_from_decoded t b r bytes small is_number decoded n fits = (
       let same : b ≡ to_be_bytes w64 n = cc ok in
       ap Some (sym (from_be_bytes-to_be_bytes_8 r small) ∙ ap (from_be_bytes w64) (is_number ∙ same) ∙ from_be_bytes-to_be_bytes_8 n fits),
 )
+
+-- numbers of 64 bits with one text are the same
+pub etag_told : (m n : ℕ) → m < 2 ^ 64 → n < 2 ^ 64 → etag_text_of m ≡ etag_text_of n → m ≡ n
+etag_told m n small less same =
+    let both = sym (decoded_of_text (etag_text_of m) m refl) ∙ decoded_of_text (etag_text_of m) n same in
+    let bytes : to_be_bytes w64 m ≡ to_be_bytes w64 n = cc both in
+    sym (from_be_bytes-to_be_bytes_8 m small) ∙ ap (from_be_bytes w64) bytes ∙ from_be_bytes-to_be_bytes_8 n less

@@ -3,3 +3,4 @@ pub mod Bodies
 pub mod Members
 pub mod Floats
 pub mod Objects
+pub mod One

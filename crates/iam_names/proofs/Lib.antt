@@ -5,3 +5,4 @@ pub mod Groups
 pub mod Numbers
 pub mod Parsing
 pub mod Parts
+pub mod Told

@@ -1,8 +1,6 @@
 -- What is read of the bodies of kept facts, and what of that is well formed.
-use Rattle.std.proofs.Common.{◌≡◌, ◌≢◌, ℕ, ◌<◌, ◌^◌, suc, List, [], ◌∷◌, map, Option, Some, None, Result, Ok, Err, codes, inl, inr, refl, sym, ap, ◌∙◌, subst, unwrap_or}
-use Rattle.std.specs.Prelude.{⊤}
-use Rattle.serde_json.specs.Data.{Data, Items, no_items, item, number, unsigned, string, array, object, no_members, member}
-use Rattle.serde_json.specs.View.{items_of}
+use Rattle.std.proofs.Common.{◌≡◌, ℕ, List, [], Option, Some, None, Result, Ok, Err, codes, refl, sym, ap, ◌∙◌, subst, unwrap_or}
+use Rattle.serde_json.specs.Data.{Data, number, unsigned, string}
 use Rattle.iam_names.specs.Member.{IsMember, member_text}
 use Rattle.iam_names.specs.Role.{IsRoleName, role_text}
 use Rattle.iam_names.specs.declared.member.Member.{Member}
@@ -13,9 +11,9 @@ use Rattle.iam_types.specs.declared.allow.Condition.{Condition}
 use Rattle.iam_types.specs.declared.node.Org.{Org}
 use Rattle.iam_json_data.specs.Printed.{list_data}
 use Rattle.iam_json_data.specs.Shown.{member_data, binding_data}
-use Rattle.iam_json_data.specs.Reading.{Then, ReadsText, ReadsNumber, ReadsItems, ReadsList, ReadsMember, ReadsRequired, present}
+use Rattle.iam_json_data.specs.Reading.{Then, ReadsText, ReadsNumber, ReadsList, ReadsMember, ReadsRequired, present}
 use Rattle.iam_json_data.specs.Readers.{ReadsAbsent, ReadsBinding}
-use Rattle.iam_rows.specs.Facts.{Each, IsKeptBinding, IsKeptOrg, IsKeptPolicy}
+use Rattle.iam_rows.specs.Facts.{Each, IsKeptBinding}
 use Rattle.iam_rows.specs.Rows.{org_data, policy_data}
 use Rattle.iam_rows.specs.Bodies.{ReadsAnyText, ReadsCounts, ReadsOwner, ReadsOrgBody, ReadsPolicyBody}
 use Rattle.iam_rows.specs.declared.body.AnyText.{AnyText}
@@ -23,7 +21,8 @@ use Rattle.iam_rows.specs.declared.body.Counts.{Counts}
 use Rattle.iam_rows.specs.declared.body.Owner.{Owner}
 use Rattle.iam_rows.specs.declared.body.OrgBody.{OrgBody}
 use Rattle.iam_rows.specs.declared.body.PolicyBody.{PolicyBody}
-use Rattle.iam_rows.proofs.Telling.{member_told, role_told, text_told, number_told, items_told, required_told, member_there_told, then_told}
+use Rattle.iam_names.proofs.Told.{member_told, role_told}
+use Rattle.iam_rows.proofs.Telling.{text_told, number_told, items_told, required_told, member_there_told, then_told}
 
 -- ---- the organisation
 

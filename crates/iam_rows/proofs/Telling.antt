@@ -1,51 +1,10 @@
 -- What is shown of a kept thing is read as that thing alone.
-use Rattle.std.proofs.Common.{◌≡◌, ◌≢◌, ℕ, ◌+◌, ◌<◌, ◌^◌, suc, List, [], ◌∷◌, ◌++◌, map, Option, Some, None, Result, Ok, Err, codes, inl, inr, refl, sym, ap, ◌∙◌, subst, unwrap_or}
-use Rattle.std.specs.Prelude.{⊤}
-use Rattle.serde_json.specs.Data.{Data, number, unsigned, string, array, object, no_members, member}
+use Rattle.std.proofs.Common.{◌≡◌, ℕ, suc, List, [], ◌∷◌, map, Option, Some, None, Result, Ok, Err, inl, inr, refl, ap, subst}
+use Rattle.serde_json.specs.Data.{Data, number, unsigned, string}
 use Rattle.serde_json.specs.View.{items_of}
 use Rattle.iam_names.specs.Reading.{IsToldByText}
-use Rattle.iam_names.specs.Member.{IsMember, member_text}
-use Rattle.iam_names.specs.Role.{IsRoleName, role_text}
-use Rattle.iam_names.specs.declared.member.Member.{Member}
-use Rattle.iam_names.specs.declared.member.Member.TheVariants as m
-use Rattle.iam_names.specs.declared.role.RoleName.{RoleName}
-use Rattle.iam_names.specs.declared.role.RoleName.TheVariants as r
-use Rattle.iam_types.specs.declared.allow.Binding.{Binding}
-use Rattle.iam_json_data.specs.Printed.{list_data}
-use Rattle.iam_json_data.specs.Shown.{member_data, binding_data}
-use Rattle.iam_json_data.specs.Reading.{IsBadInside, Then, ReadsText, ReadsNumber, ReadsItems, ReadsList, ReadsMember, ReadsRequired}
-use Rattle.iam_json_data.specs.Readers.{ReadsBinding}
-use Rattle.iam_rows.specs.Facts.{Each, IsKeptBinding}
-
--- ---- names by their texts
-
-pub member_told : IsToldByText IsMember member_text
-member_told (m.User a) (m.User b) f g e = let same : a ≡ b = cc in ap m.User same
-member_told (m.User a) (m.Service b) f g e = absurd g.0
-member_told (m.User a) (m.Group b) f g e = absurd g.0
-member_told (m.User a) (m.Domain b) f g e = absurd g.0
-member_told (m.User a) m.AllUsers f g e = absurd g.0
-member_told (m.User a) m.AllAuthenticated f g e = absurd g.0
-member_told (m.User a) (m.PoolSubject p s) f g e = absurd g.0
-member_told (m.User a) (m.PoolGroup p s) f g e = absurd g.0
-member_told (m.User a) (m.PoolAll p) f g e = absurd g.0
-member_told (m.User a) (m.Deleted b) f g e = absurd g.0
-member_told (m.Service a) b f g e = absurd f.0
-member_told (m.Group a) b f g e = absurd f.0
-member_told (m.Domain a) b f g e = absurd f.0
-member_told m.AllUsers b f g e = absurd f.0
-member_told m.AllAuthenticated b f g e = absurd f.0
-member_told (m.PoolSubject p s) b f g e = absurd f.0
-member_told (m.PoolGroup p s) b f g e = absurd f.0
-member_told (m.PoolAll p) b f g e = absurd f.0
-member_told (m.Deleted a) b f g e = absurd f.0
-
-pub role_told : IsToldByText IsRoleName role_text
-role_told (r.Predefined a) (r.Predefined b) f g e = let same : a ≡ b = cc in ap r.Predefined same
-role_told (r.Predefined a) (r.OfOrganization n b) f g e = absurd g
-role_told (r.Predefined a) (r.OfProject p b) f g e = absurd g
-role_told (r.OfOrganization n a) b f g e = absurd f
-role_told (r.OfProject p a) b f g e = absurd f
+use Rattle.iam_json_data.specs.Reading.{Then, ReadsText, ReadsNumber, ReadsItems, ReadsMember, ReadsRequired}
+use Rattle.iam_rows.specs.Facts.{Each}
 
 -- ---- members
 

@@ -1,0 +1,104 @@
+-- Each body has one answer.
+use Rattle.std.proofs.Common.{◌≡◌, ℕ, Bool, true, false, List, Option, Result, Ok, Err, refl, sym, ap, ◌∙◌, codes, option_map, ◌==◌}
+use Rattle.std.specs.Bool.{MatchBool}
+use Rattle.serde_json.specs.Data.{Data}
+use Rattle.iam_names.specs.Permission.{IsPermission, permission_text}
+use Rattle.iam_names.proofs.Told.{permission_told}
+use Rattle.iam_types.specs.declared.allow.Binding.{Binding}
+use Rattle.iam_types.specs.declared.ask.Ask.TheVariants.{Test, Policy}
+use Rattle.iam_types.specs.declared.command.Command.TheVariants.{SetAllow}
+use Rattle.iam_json_data.specs.Etag.{etag_text_of}
+use Rattle.iam_json_data.specs.Reading.{Then, ReadsNumber, ReadsMember, present}
+use Rattle.iam_json_data.specs.Readers.{ReadsBinding}
+use Rattle.iam_json_data.proofs.Etags.{etag_told}
+use Rattle.iam_json_data.proofs.One.{IsOne, then_one, text_one, number_one, list_one, member_one, required_one, object_one, binding_one}
+use Rattle.iam_json.specs.Bodies.{Made, ReadsEtag, ReadsNoItems, ReadsVersion, ReadsTest, ReadsOptions, version_of, ReadsReading, ReadsBindings, ReadsPolicy, ReadsSetting}
+use Rattle.iam_json.specs.Calls.{AtMostOneCall}
+use Rattle.iam_json.specs.declared.call.Call.TheVariants.{Write, Read}
+use Rattle.iam_json.specs.declared.policy.Etag.{Etag}
+use Rattle.iam_json.specs.declared.policy.GivenOptions.{GivenOptions}
+use Rattle.iam_json.specs.declared.policy.GivenPolicy.{GivenPolicy}
+
+made_one : {A B : Type 0} (make : A → B) (reads : Result A (List ℕ) → Type 0) → IsOne reads → IsOne (Made make reads)
+made_one make reads one (Ok v) (Ok w) h g =
+    let e = one (Ok h.0) (Ok g.0) h.1 g.1 in
+    let same : h.0 ≡ g.0 = cc e in
+    ap Ok (h.2 ∙ ap make same ∙ sym g.2)
+made_one make reads one (Ok v) (Err q) h g = let e = one (Ok h.0) (Err q) h.1 g in absurd (cc e)
+made_one make reads one (Err p) (Ok w) h g = let e = one (Err p) (Ok g.0) h g.1 in absurd (cc e)
+made_one make reads one (Err p) (Err q) h g = let e = one (Err p) (Err q) h g in let same : p ≡ q = cc e in ap Err same
+
+etag_one : (d : Data) → IsOne (ReadsEtag d)
+etag_one d (Ok a) (Ok b) h g =
+    let both = sym h.1 ∙ g.1 in
+    let text : etag_text_of a.number ≡ etag_text_of b.number = cc both in
+    ap (λ (n : ℕ). Ok (record { number = n })) (etag_told a.number b.number h.0 g.0 text)
+etag_one d (Ok a) (Err q) h g = absurd (g.1 a.number h.0 h.1)
+etag_one d (Err p) (Ok b) h g = absurd (h.1 b.number g.0 g.1)
+etag_one d (Err p) (Err q) h g = ap Err (h.0 ∙ sym g.0)
+
+no_items_one : (d : Data) → IsOne (ReadsNoItems d)
+no_items_one d (Ok a) (Ok b) h g = refl
+no_items_one d (Ok a) (Err q) h g = absurd (g.1 h)
+no_items_one d (Err p) (Ok b) h g = absurd (h.1 g)
+no_items_one d (Err p) (Err q) h g = ap Err (h.0 ∙ sym g.0)
+
+version_one : (name : List ℕ) (d : Data) → IsOne (ReadsVersion name d)
+version_one name d = made_one _ _ (member_one ReadsNumber number_one name (present name d))
+
+-- ---- the bodies of the lines
+
+test_one : (d : Data) → IsOne (ReadsTest d)
+test_one d = object_one _ (λ e. required_one _ (list_one _ (text_one IsPermission permission_text permission_told)) (codes "permissions") (present (codes "permissions") e)) d
+
+abbrev options_of : ℕ → GivenOptions
+options_of version = record { version = version }
+
+options_one : (d : Data) → IsOne (ReadsOptions d)
+options_one d = object_one _ (λ e. made_one options_of _ (version_one (codes "requestedPolicyVersion") e)) d
+
+reading_one : (d : Data) → IsOne (ReadsReading d)
+reading_one d = object_one _ (λ e. made_one version_of _ (member_one ReadsOptions options_one (codes "options") (present (codes "options") e))) d
+
+bindings_one : (d : Data) → IsOne (ReadsBindings d)
+bindings_one d =
+    then_one _ _ (member_one _ (list_one ReadsBinding binding_one) (codes "bindings") (present (codes "bindings") d)) (λ bindings.
+    made_one _ _ (member_one ReadsNoItems no_items_one (codes "auditConfigs") (present (codes "auditConfigs") d)))
+
+abbrev policy_of : ℕ → Option Etag → List Binding → GivenPolicy
+policy_of version etag bindings = record { version = version; etag = option_map (λ e. e.number) etag; bindings = bindings }
+
+abbrev after_etag : Data → ℕ → Option Etag → Result GivenPolicy (List ℕ) → Type 0
+after_etag d version etag = Made (policy_of version etag) (ReadsBindings d)
+
+abbrev after_version : Data → ℕ → Result GivenPolicy (List ℕ) → Type 0
+after_version d version = Then (ReadsMember ReadsEtag (codes "etag") (present (codes "etag") d)) (after_etag d version)
+
+abbrev policy_members : Data → Result GivenPolicy (List ℕ) → Type 0
+policy_members d = Then (ReadsVersion (codes "version") d) (after_version d)
+
+policy_members_one : (d : Data) → IsOne (policy_members d)
+policy_members_one d =
+    then_one _ (after_version d) (version_one (codes "version") d) (λ version.
+    then_one _ (after_etag d version) (member_one ReadsEtag etag_one (codes "etag") (present (codes "etag") d)) (λ etag.
+    made_one (policy_of version etag) _ (bindings_one d)))
+
+policy_one : (d : Data) → IsOne (ReadsPolicy d)
+policy_one d = object_one policy_members policy_members_one d
+
+setting_one : (d : Data) → IsOne (ReadsSetting d)
+setting_one d = object_one _ (λ e. required_one ReadsPolicy policy_one (codes "policy") (present (codes "policy") e)) d
+
+-- ---- the calls
+
+-- one of two, by a test
+either_one : {A : Type 0} (test : Bool) (first second : Result A (List ℕ) → Type 0) → IsOne first → IsOne second → IsOne (λ said. MatchBool test (first said) (second said))
+either_one true first second one other said again h g = one said again h g
+either_one false first second one other said again h g = other said again h g
+
+pub line_one : AtMostOneCall
+line_one line node d said other h g =
+    either_one (line == 1) _ _ (made_one (λ permissions. Read (Test node permissions)) _ (test_one d))
+    (either_one (line == 2) _ _ (made_one (λ version. Read (Policy node version)) _ (reading_one d))
+    (made_one (λ policy. Write (SetAllow node policy.version policy.etag policy.bindings)) _ (setting_one d)))
+    said other h g
