@@ -1,0 +1,8 @@
+use Rattle.std.proofs.Common.{Ok}
+use Rattle.iam_routes.proofs.Calls.{given_on_line}
+use Rattle.iam_routes.proofs.message.call_of.Goals as goal
+
+pub returns-in-Ok : goal.returns-in-Ok
+returns-in-Ok c =
+    let gives = rw (c.in-Ok.is, c.as_slice.ensures) at c.read_call.ensures in
+    (c.requires.caller, given_on_line c.args.message.now c.args.route.now (Ok c.in-Ok.call) c.requires.route (λ e. cc e) gives)

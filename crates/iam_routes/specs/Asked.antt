@@ -1,0 +1,63 @@
+-- What a message alone gives: the first refusal, else the caller and the call.
+use Rattle.std.specs.Prelude.{◌≡◌, Result, Ok, Err}
+use Rattle.iam_names.specs.Caller.{caller_text, IsCaller}
+use Rattle.iam_names.specs.declared.caller.Caller.{Caller}
+use Rattle.iam_names.specs.declared.caller.Caller.TheVariants.{Anonymous}
+use Rattle.iam_names.specs.declared.node.NodeName.{NodeName}
+use Rattle.iam_wire.specs.declared.message.Field.{Field}
+use Rattle.iam_wire.specs.declared.message.Field.TheVariants.{Absent, One, Bad}
+use Rattle.iam_wire.specs.declared.message.Message.{Message}
+use Rattle.iam_json_data.specs.Body.{BodyGives}
+use Rattle.iam_json_data.specs.declared.stop.BodyStop.{BodyStop}
+use Rattle.iam_json_data.specs.declared.stop.BodyStop.TheVariants as stop
+use Rattle.iam_json.specs.Calls.{ReadsLine}
+use Rattle.iam_json.specs.Refusals.{line_of}
+use Rattle.iam_json.specs.declared.call.Call.{Call}
+use Rattle.iam_json.specs.declared.details.Details.{Details}
+use Rattle.iam_json.specs.declared.details.Details.TheVariants.{BadHead, BadJson, BadField, NoRoute, BadMethod, BodyTooLarge, NeedLength, BadCaller, Refused as RefusedInState, KeeperFault, ClockFault, OutOfMemory}
+use Rattle.iam_routes.specs.Routes.{RouteLine, IsOnTable, Reaches}
+use Rattle.iam_routes.specs.declared.given.Asked.{Asked}
+use Rattle.iam_routes.specs.declared.given.Asked.TheVariants.{Refused, Given}
+
+-- the caller that the header names; without a header it is the anonymous one
+abbrev pub NamesCaller : Field → Caller → Type 0
+NamesCaller Absent caller = caller ≡ Anonymous
+NamesCaller (One text) caller = IsCaller caller × (text ≡ caller_text caller)
+NamesCaller Bad caller = ⊥
+
+-- a line of the table has the path and the method
+abbrev pub HasRoute : Message → Type 0
+HasRoute message = (line : RouteLine) × ((node : NodeName) × Reaches message.method message.target line node)
+
+-- the header names a caller
+abbrev pub HasCaller : Message → Type 0
+HasCaller message = (caller : Caller) × NamesCaller message.caller caller
+
+-- the body, read as that of the line of the message, gives this
+abbrev pub CallGives : Message → Result Call BodyStop → Type 0
+CallGives message said =
+    (line : RouteLine) × ((node : NodeName) × Reaches message.method message.target line node × BodyGives (ReadsLine line.number node) message.body said)
+
+-- the refusals that a message alone gives, in their order
+abbrev pub IsRefused : Message → Details → Type 0
+IsRefused message NoRoute = ¬ (IsOnTable message.target)
+IsRefused message BadMethod = IsOnTable message.target × ¬ (HasRoute message)
+IsRefused message BadCaller = HasRoute message × ¬ (HasCaller message)
+IsRefused message BadJson = HasCaller message × CallGives message (Err stop.BadJson)
+IsRefused message (BadField path) = HasCaller message × CallGives message (Err (stop.BadField path))
+IsRefused message BadHead = ⊥
+IsRefused message (BodyTooLarge declared limit) = ⊥
+IsRefused message NeedLength = ⊥
+IsRefused message (RefusedInState refusal) = ⊥
+IsRefused message KeeperFault = ⊥
+IsRefused message ClockFault = ⊥
+IsRefused message (OutOfMemory stored) = ⊥
+
+-- the first refusal, with its number, else the caller and the call
+abbrev pub IsAsked : Message → Asked → Type 0
+IsAsked message (Refused reply) = IsRefused message reply.details × (reply.number ≡ (line_of reply.details).number)
+IsAsked message (Given caller call) = NamesCaller message.caller caller × CallGives message (Ok call)
+
+-- a message asks one thing
+abbrev pub AtMostOneAsking : Type 0
+AtMostOneAsking = (message : Message) (asking other : Asked) → IsAsked message asking → IsAsked message other → asking ≡ other

@@ -1,0 +1,19 @@
+//! What a message asks for.
+//!
+//! `asked` gives the first refusal that a message alone has, else its caller and its call. `IsAsked` says which:
+//! the route table, the forms of paths and callers, and the order of the refusals stand in `specs/`.
+#![tactic(auto)]
+
+mod caller;
+mod given;
+mod laws;
+mod line;
+mod message;
+mod place;
+mod route;
+#[cfg(test)]
+mod tests;
+
+pub use given::Asked;
+pub use laws::one_asking;
+pub use message::asked;
