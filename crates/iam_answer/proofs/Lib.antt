@@ -1,0 +1,4 @@
+pub mod Fixed
+pub mod Known
+pub mod StoredParts
+pub mod Tests

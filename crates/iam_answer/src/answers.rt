@@ -1,0 +1,57 @@
+// What reads are answered.
+ghost use Rattle.std.specs.Prelude.{◌≡◌, IfOk};
+ghost use Rattle.iam_names.specs.Node.{node_text};
+ghost use Rattle.iam_types.specs.declared.answer.Answer.TheVariants.{Refused};
+ghost use Rattle.iam_types.specs.declared.refusal.Refusal.TheVariants.{NotFound};
+ghost use Rattle.iam_answer.specs.Answer.{answer_of};
+
+use crate::policies::policy;
+use crate::testing::test;
+use iam_judge::Index;
+use iam_names::{Caller, NodeName};
+use iam_tables::{Answer, Ask, Refusal, Resource, resolve};
+use iam_text::{Moment, OutOfMemory};
+use std::alloc::Global;
+
+fn not_found(alloc: Global, node: &NodeName) -> Result<Answer, OutOfMemory>
+    ensures { IfOk result (λ answer. answer ≡ Refused (NotFound (node_text node.now))) }
+{
+    let name = node.text(alloc)?;
+    Ok(Answer::Refused(Refusal::NotFound { name }))
+}
+
+/// What a read is answered in the state that the index holds, at this moment.
+#[tactic(auto, unfolding(crate::specs::Answer::answer_of))]
+pub fn answer(
+    alloc: Global,
+    index: &Index,
+    ask: &Ask,
+    caller: &Caller,
+    moment: Moment,
+) -> Result<Answer, OutOfMemory>
+    ensures { IfOk result (λ answer. answer ≡ answer_of index.now ask.now caller.now moment) }
+{
+    match ask {
+        Ask::Test { node, permissions } => match resolve(index.tables(), node) {
+            Some(id) => test(alloc, index, id, permissions.as_slice(), caller, moment),
+            None => not_found(alloc, node),
+        },
+        Ask::Policy { node, version } => match resolve(index.tables(), node) {
+            Some(id) => policy(alloc, index, id, *version, caller, moment),
+            None => not_found(alloc, node),
+        },
+        Ask::Node { .. }
+        | Ask::Folders { .. }
+        | Ask::Projects { .. }
+        | Ask::TagKey { .. }
+        | Ask::TagValue { .. }
+        | Ask::Tags { .. }
+        | Ask::Group { .. }
+        | Ask::Role { .. }
+        | Ask::Denies { .. }
+        | Ask::Deny { .. }
+        | Ask::Boundary { .. }
+        | Ask::Bound { .. }
+        | Ask::Troubleshoot { .. } => Ok(Answer::Resource(Resource::Nothing)),
+    }
+}

@@ -1,0 +1,110 @@
+// The reading of a node's policy.
+ghost use Rattle.std.specs.Prelude.{◌≡◌, IfOk, IsTrue};
+ghost use Rattle.iam_model.specs.AdmitAllow.{is_version as version_is_one, unless_allowed};
+ghost use Rattle.iam_model.specs.Nodes.{exists};
+ghost use Rattle.iam_answer.specs.Answer.{may_not_get, policy_answer, policy_shown};
+ghost use Rattle.iam_answer.specs.Asking.{get_permission};
+
+use crate::queries::decision_of;
+use iam_judge::Index;
+use iam_names::{Caller, NodeId, NodeKind, PermissionName, copy_permission};
+use iam_tables::{
+    Answer, Binding, Decision, Refusal, Tables, copy_binding, permission_named, policy_of,
+};
+use iam_text::{List, Moment, OutOfMemory};
+use std::alloc::Global;
+
+fn get_text(kind: NodeKind) -> &'static str
+    ensures { result.now ≡ get_permission kind }
+{
+    match kind {
+        NodeKind::Organization => "resourcemanager.organizations.getIamPolicy",
+        NodeKind::Folder => "resourcemanager.folders.getIamPolicy",
+        NodeKind::Project => "resourcemanager.projects.getIamPolicy",
+    }
+}
+
+// What a decision refuses.
+fn unless_allowed(permission: PermissionName, decision: Decision) -> Option<Refusal>
+    ensures { result ≡ unless_allowed permission decision }
+{
+    match decision {
+        Decision::Allowed { .. } => None,
+        Decision::DeniedBoundary { binding } => Some(Refusal::DeniedBoundary { binding }),
+        Decision::DeniedRule { policy, rule } => Some(Refusal::DeniedRule { policy, rule }),
+        Decision::NotGranted => Some(Refusal::NotGranted { permission }),
+    }
+}
+
+// The refusal of a caller who may not read the policy.
+#[tactic(auto, using(crate::proofs::Known::get_is_known, crate::proofs::Known::get_is_named))]
+fn may_not_get(
+    alloc: Global,
+    index: &Index,
+    node: NodeId,
+    caller: &Caller,
+    moment: Moment,
+) -> Result<Option<Refusal>, OutOfMemory>
+    requires { IsTrue (exists index.now node) }
+    ensures { IfOk result (λ refusal. refusal ≡ may_not_get index.now node caller.now moment) }
+{
+    let permission = permission_named(alloc, get_text(node.kind))?;
+    let decision = decision_of(alloc, index, node, caller, moment, &permission)?;
+    Ok(unless_allowed(permission, decision))
+}
+
+fn is_version(version: u64) -> bool
+    ensures { result ≡ version_is_one version }
+{
+    version == 0 || version == 1 || version == 3
+}
+
+// Copies of the bindings.
+fn copies(alloc: Global, bindings: &[Binding]) -> Result<List<Binding>, OutOfMemory>
+    ensures { IfOk result (λ copies. copies ≡ bindings.now) }
+{
+    let mut copies = List::new(alloc);
+    for binding in bindings {
+        copies.push(copy_binding(binding)?)?;
+    }
+    Ok(copies)
+}
+
+/// The policy of a node as it is shown.
+pub fn policy_shown(alloc: Global, tables: &Tables, node: NodeId) -> Result<Answer, OutOfMemory>
+    ensures { IfOk result (λ answer. answer ≡ policy_shown tables.now node) }
+{
+    match policy_of(tables, node) {
+        Some(policy) => Ok(Answer::Policy {
+            bindings: copies(alloc, policy.bindings.as_slice())?,
+            set: policy.set,
+            version: 1,
+        }),
+        None => Ok(Answer::Policy {
+            bindings: List::new(alloc),
+            set: 0,
+            version: 1,
+        }),
+    }
+}
+
+/// What the reading of a node's policy comes to.
+pub fn policy(
+    alloc: Global,
+    index: &Index,
+    node: NodeId,
+    version: u64,
+    caller: &Caller,
+    moment: Moment,
+) -> Result<Answer, OutOfMemory>
+    requires { IsTrue (exists index.now node) }
+    ensures { IfOk result (λ answer. answer ≡ policy_answer index.now node version caller.now moment) }
+{
+    if let Some(refusal) = may_not_get(alloc, index, node, caller, moment)? {
+        return Ok(Answer::Refused(refusal));
+    }
+    if !is_version(version) {
+        return Ok(Answer::Refused(Refusal::Version { given: version }));
+    }
+    policy_shown(alloc, index.tables(), node)
+}

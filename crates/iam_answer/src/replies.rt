@@ -1,0 +1,74 @@
+// The bytes of replies.
+ghost use Rattle.std.specs.Prelude.{◌≡◌, IfOk};
+ghost use Rattle.iam_json.specs.Refusals.{line_of};
+ghost use Rattle.iam_answer.specs.Replies.{answer_code, no_memory_reply as the_fixed_reply, plain_reply as plain_bytes, served_reply as served_bytes};
+
+use iam_json::{ErrorReply, answer_body, code_of, error_body, refusal_code};
+use iam_tables::Answer;
+use iam_text::{List, Moment, OutOfMemory};
+use iam_wire::{Reply, reply_bytes};
+use std::alloc::Global;
+
+const NO_MEMORY: &str =
+    "HTTP/1.1 507 Insufficient Storage\r\ncontent-type: application/json\r\ncontent-length: 105\r\n\r\n{\"error\":{\"code\":507,\"details\":{\"stored\":false},\"message\":\"OUT_OF_MEMORY\",\"status\":\"RESOURCE_EXHAUSTED\"}}";
+
+/// The reply to a message that is refused whatever the state: it shows neither revision nor moment.
+#[tactic(auto, unfolding(crate::specs::Replies::plain_reply))]
+pub fn plain_reply(alloc: Global, error: &ErrorReply) -> Result<List<u8>, OutOfMemory>
+    requires { error.now.number ≡ (line_of error.now.details).number }
+    ensures { IfOk result (λ bytes. bytes ≡ plain_bytes error.now.details) }
+{
+    let reply = Reply {
+        code: code_of(error),
+        number: None,
+        moment: None,
+        body: error_body(alloc, error)?,
+    };
+    reply_bytes(alloc, &reply)
+}
+
+fn answer_code(answer: &Answer) -> u16
+    ensures { result ≡ answer_code answer.now }
+{
+    match answer {
+        Answer::Refused(refusal) => refusal_code(refusal),
+        Answer::Resource(_)
+        | Answer::Operation { .. }
+        | Answer::Folders(_)
+        | Answer::Projects(_)
+        | Answer::TagBindings(_)
+        | Answer::DenyPolicies(_)
+        | Answer::Permissions(_)
+        | Answer::Policy { .. }
+        | Answer::Group { .. }
+        | Answer::Role(_)
+        | Answer::Explanation { .. } => 200,
+    }
+}
+
+/// The reply with an answer in the state of this number, at this moment.
+#[tactic(auto, unfolding(crate::specs::Replies::served_reply))]
+pub fn served_reply(
+    alloc: Global,
+    number: u64,
+    moment: Moment,
+    answer: &Answer,
+) -> Result<List<u8>, OutOfMemory>
+    ensures { IfOk result (λ bytes. bytes ≡ served_bytes number moment answer.now) }
+{
+    let reply = Reply {
+        code: answer_code(answer),
+        number: Some(number),
+        moment: Some(moment),
+        body: answer_body(alloc, answer)?,
+    };
+    reply_bytes(alloc, &reply)
+}
+
+/// The reply that takes no memory: memory was refused, and nothing was stored.
+#[tactic(auto, using(crate::proofs::Fixed::fixed_reply))]
+pub fn no_memory_reply() -> &'static [u8]
+    ensures { result.now ≡ the_fixed_reply }
+{
+    NO_MEMORY.as_bytes()
+}
