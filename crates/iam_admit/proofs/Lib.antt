@@ -1,0 +1,4 @@
+pub mod Alike
+pub mod Known
+pub mod LeadingTo
+pub mod Ordered

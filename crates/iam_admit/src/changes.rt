@@ -1,0 +1,37 @@
+// The facts that an accepted command changes.
+ghost use Rattle.std.specs.Prelude.{◌≡◌, ◌+◌, ◌<◌, ◌^◌, [], ◌∷◌, IfOk};
+ghost use Rattle.iam_types.specs.declared.fact.Fact.TheVariants.{Allow as TheAllow, Org as TheOrg};
+ghost use Rattle.iam_types.specs.declared.fact.FactChange.TheVariants.{Put as IsPut};
+ghost use Rattle.iam_model.specs.ApplyAllow.{changed as the_org, policy_after as the_policy};
+
+use iam_names::NodeId;
+use iam_tables::{Binding, Fact, FactChange, Org, Tables, copy_org, policy_after};
+use iam_text::{List, OutOfMemory};
+use std::alloc::Global;
+
+fn changed(org: &Org) -> Result<Org, OutOfMemory>
+    requires { org.now.changes + 1 < 2 ^ 64 }
+    ensures { IfOk result (λ changed. changed ≡ the_org org.now) }
+{
+    let mut changed = copy_org(org)?;
+    changed.changes += 1;
+    Ok(changed)
+}
+
+/// The setting of a policy puts the policy, and the organisation with one more change.
+pub fn set_changes(
+    alloc: Global,
+    tables: &Tables,
+    node: NodeId,
+    bindings: &List<Binding>,
+) -> Result<List<FactChange>, OutOfMemory>
+    requires { tables.now.org.changes + 1 < 2 ^ 64 }
+    ensures { IfOk result (λ changes. changes ≡ IsPut (TheAllow (the_policy tables.now node bindings.now)) ∷ IsPut (TheOrg (the_org tables.now.org)) ∷ []) }
+{
+    let policy = policy_after(alloc, tables, node, bindings)?;
+    let org = changed(&tables.org)?;
+    let mut changes = List::new(alloc);
+    changes.push(FactChange::Put(Fact::Allow(policy)))?;
+    changes.push(FactChange::Put(Fact::Org(org)))?;
+    Ok(changes)
+}

@@ -1,0 +1,62 @@
+// Rules that several commands have.
+ghost use Rattle.std.specs.Prelude.{◌≡◌, IfOk, IsTrue, Some};
+ghost use Rattle.iam_names.specs.Node.{node_text};
+ghost use Rattle.iam_types.specs.declared.refusal.Refusal.TheVariants.{NotFound};
+ghost use Rattle.iam_model.specs.AdmitAllow.{beyond, missing, unless_allowed as refused_by};
+ghost use Rattle.iam_model.specs.Nodes.{exists, resolve as node_named};
+ghost use Rattle.iam_admit.specs.Follows.{Follows};
+
+use crate::stop::AdmitStop;
+use iam_names::{NodeId, NodeName, PermissionName};
+use iam_tables::{Decision, LimitName, Refusal, Tables, resolve};
+use iam_text::OutOfMemory;
+use std::alloc::Global;
+
+fn not_found(alloc: Global, name: &NodeName) -> Result<Refusal, OutOfMemory>
+    ensures { IfOk result (λ refusal. refusal ≡ NotFound (node_text name.now)) }
+{
+    let name = name.text(alloc)?;
+    Ok(Refusal::NotFound { name })
+}
+
+/// The node of a name, which must be there.
+pub fn found(alloc: Global, tables: &Tables, name: &NodeName) -> Result<NodeId, AdmitStop>
+    ensures follows { Follows result (missing tables.now name.now) }
+    ensures node { IfOk result (λ node. node_named tables.now name.now ≡ Some node) }
+    ensures there { IfOk result (λ node. IsTrue (exists tables.now node)) }
+{
+    match resolve(tables, name) {
+        Some(node) => Ok(node),
+        None => Err(AdmitStop::Refused(not_found(alloc, name)?)),
+    }
+}
+
+/// What a decision refuses.
+pub fn unless_allowed(permission: PermissionName, decision: Decision) -> Result<(), AdmitStop>
+    ensures { Follows result (refused_by permission decision) }
+{
+    match decision {
+        Decision::Allowed { .. } => Ok(()),
+        Decision::DeniedBoundary { binding } => {
+            Err(AdmitStop::Refused(Refusal::DeniedBoundary { binding }))
+        }
+        Decision::DeniedRule { policy, rule } => {
+            Err(AdmitStop::Refused(Refusal::DeniedRule { policy, rule }))
+        }
+        Decision::NotGranted => Err(AdmitStop::Refused(Refusal::NotGranted { permission })),
+    }
+}
+
+/// A limit isn't passed.
+pub fn within(counted: u64, limit: u64, which: LimitName) -> Result<(), AdmitStop>
+    ensures { Follows result (beyond counted limit which) }
+{
+    if counted > limit {
+        return Err(AdmitStop::Refused(Refusal::Limit {
+            counted,
+            limit,
+            which,
+        }));
+    }
+    Ok(())
+}

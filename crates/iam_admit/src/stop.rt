@@ -1,0 +1,21 @@
+// How the trying of rules stops.
+use iam_tables::Refusal;
+use iam_text::OutOfMemory;
+
+/// Why an entry isn't accepted: a rule refuses it, or memory was refused.
+#[derive(Drop)]
+pub enum AdmitStop {
+    Refused(Refusal),
+    OutOfMemory,
+}
+
+impl From<OutOfMemory> for AdmitStop {
+    ghost use Rattle.std.specs.Prelude.{◌≡◌};
+    ghost use Rattle.iam_admit.specs.declared.stop.AdmitStop.TheVariants.{OutOfMemory as NoMemory};
+
+    ghost from_gives = { λ _ stop. stop ≡ NoMemory };
+
+    fn from(_: OutOfMemory) -> AdmitStop {
+        AdmitStop::OutOfMemory
+    }
+}
