@@ -1,0 +1,10 @@
+pub mod Alones
+pub mod Answering
+pub mod Asks
+pub mod Finishing
+pub mod Follows
+pub mod Leading
+pub mod OneMore
+pub mod Pieces
+pub mod Standing
+pub mod Turning
