@@ -1,5 +1,3 @@
-pub mod Bodies
-pub mod Inputs
+pub mod Endings
+pub mod Openings
 pub mod Options
-pub mod Pieces
-pub mod Requests

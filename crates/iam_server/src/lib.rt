@@ -1,19 +1,17 @@
 //! The top: what the words ask for, and the run over one line.
 //!
-//! The contract of `run` says which bytes are written and how the run ends, for every input and all words, and
-//! that a fault is answered only where its count rose.
+//! The contract of `run` says, for every input and all words, which messages are answered by which bytes, from the
+//! opening's tables on, and how the run ends, and that a fault is answered only where its count rose.
 #![tactic(auto)]
 
-mod body;
 mod ends;
-mod exchange;
 mod plan;
-mod request;
 mod runs;
 
 pub use ends::{LoadFault, RunEnd, Status};
+pub use iam_answer::answer;
+pub use iam_office::{FloorStop, Lone, Numbered, Office, WriteStop, converse};
 pub use plan::{Plan, PlanStop, plan_of};
-pub use request::{Request, read_request};
 pub use runs::run;
 
 #[cfg(test)]

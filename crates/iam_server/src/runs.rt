@@ -1,103 +1,155 @@
 // One run of the program.
-ghost use Rattle.std.specs.Prelude.{◌≡◌, [], IfOk, IfSome};
+ghost use Rattle.std.specs.Prelude.{◌≡◌, ◌⊎◌, [], IfOk, IfSome};
+ghost use Rattle.iam_model.specs.Opening.{IsOpening, opening_tables as tables_of};
 ghost use Rattle.iam_outer.specs.Causes.{Rose};
+ghost use Rattle.iam_outer.specs.Given.{AppendsMoments};
+ghost use Rattle.iam_office.specs.Talks.{all_moments};
+ghost use Rattle.iam_types.specs.declared.tables.Opening.{Opening as AnOpening};
 ghost use Rattle.iam_server.specs.Plan.{IsPlan};
-ghost use Rattle.iam_server.specs.Run.{bad_head, Answers, CanEnd};
+ghost use Rattle.iam_server.specs.Run.{status_of as its_status, RanFrom, EndsEarly, CanEnd};
 ghost use Rattle.iam_server.specs.declared.plan.Plan.{Plan};
 
-use crate::exchange::{ReadStop, read_all, send_all};
 use crate::plan::{Plan, PlanStop, plan_of};
 use crate::{RunEnd, Status};
-use iam_outer::{Clock, Keeper, Line, List, OutOfMemory, Text};
-use iam_wire::{Reply, reply_bytes};
+use iam_judge::Index;
+use iam_model::openings_are_good;
+use iam_office::converse_alone;
+use iam_outer::{Clock, Keeper, Line, List, OutOfMemory, TalkEnd, Text, Zones};
+use iam_tables::{Catalogue, Opening, Tables, opening_tables};
 use std::alloc::Global;
 
-/// An input with more bytes is refused.
-const LIMIT: usize = 65_536;
-
-const BAD_HEAD: &str =
-    "{\"error\":{\"code\":400,\"details\":{},\"message\":\"BAD_HEAD\",\"status\":\"INVALID_ARGUMENT\"}}";
-
-fn bad_head(alloc: Global) -> Result<List<u8>, OutOfMemory>
-    ensures { IfOk result (λ bytes. bytes ≡ bad_head) }
+fn status_of(end: TalkEnd) -> Status
+    ensures { result ≡ its_status end }
 {
-    let reply = Reply {
-        code: 400,
-        number: None,
-        moment: None,
-        body: Text::of(alloc, BAD_HEAD)?,
-    };
-    reply_bytes(alloc, &reply)
-}
-
-// Reads the input and answers it.
-fn apply<L: Line>(alloc: Global, line: &mut L) -> Status
-    ensures answers { IfSome (L.left line.old) (λ input. Answers result input (L.taken line.old) (L.taken line.new)) }
-    ensures ends { CanEnd result }
-    ensures read_fault { result ≡ Status.ReadFault → Rose (L.read_faults line.old) (L.read_faults line.new) }
-    ensures write_fault { result ≡ Status.WriteFault → Rose (L.write_faults line.old) (L.write_faults line.new) }
-{
-    let input = match read_all(alloc, line, LIMIT) {
-        Ok(input) => input,
-        Err(ReadStop::Fault) => return Status::ReadFault,
-        Err(ReadStop::OutOfMemory) => return Status::OutOfMemory,
-    };
-    if input.is_empty() {
-        return Status::Done;
-    }
-    let Ok(reply) = bad_head(alloc) else {
-        return Status::OutOfMemory;
-    };
-    match send_all(line, reply.as_slice()) {
-        Ok(()) => Status::BadFrame,
-        Err(_) => Status::WriteFault,
+    match end {
+        TalkEnd::Done => Status::Done,
+        TalkEnd::Cut => Status::Cut,
+        TalkEnd::BadFrame => Status::BadFrame,
+        TalkEnd::ReadFault => Status::ReadFault,
+        TalkEnd::WriteFault => Status::WriteFault,
+        TalkEnd::ClockFault => Status::ClockFault,
+        TalkEnd::Enough => Status::Enough,
+        TalkEnd::OutOfMemory => Status::OutOfMemory,
     }
 }
 
-// The opening isn't asked for anything yet.
-fn let_go(_plan: Plan) {}
-
-fn status_of<L: Line>(alloc: Global, words: &[Text], line: &mut L) -> Status
-    ensures words { result ≡ Status.Words → (plan : Plan) → ¬ IsPlan words.now plan }
-    ensures kept { result ≡ Status.Words → line.new ≡ line.old }
-    ensures plan { (result ≡ Status.Words → ⊥) → (result ≡ Status.OutOfMemory → ⊥) → ((plan : Plan) × IsPlan words.now plan) }
-    ensures answers { (result ≡ Status.Words → ⊥) → IfSome (L.left line.old) (λ input. Answers result input (L.taken line.old) (L.taken line.new)) }
-    ensures ends { (result ≡ Status.Words → ⊥) → CanEnd result }
-    ensures read_fault { result ≡ Status.ReadFault → Rose (L.read_faults line.old) (L.read_faults line.new) }
-    ensures write_fault { result ≡ Status.WriteFault → Rose (L.write_faults line.old) (L.write_faults line.new) }
+fn opening_of(plan: Plan) -> Opening
+    ensures { plan ≡ Plan.Apply result }
 {
-    match plan_of(alloc, words) {
-        Ok(plan) => {
-            let_go(plan);
-            apply(alloc, line)
-        }
-        Err(PlanStop::Words) => Status::Words,
-        Err(PlanStop::OutOfMemory) => Status::OutOfMemory,
+    match plan {
+        Plan::Apply { opening } => opening,
+    }
+}
+
+// Here an opening is dropped: behind the branches of that nothing would be known of it.
+fn let_go(_opening: Opening) {}
+
+fn tables_from(alloc: Global, opening: Opening) -> Result<Tables, OutOfMemory>
+    ensures { IfOk result (λ tables. tables ≡ tables_of opening) }
+{
+    let tables = opening_tables(alloc, &opening);
+    let_go(opening);
+    tables
+}
+
+// The index over the opening's tables.
+fn index_of(
+    alloc: Global,
+    opening: Opening,
+    catalogue: Catalogue,
+    zones: Zones,
+) -> Result<Index, OutOfMemory>
+    requires { IsOpening opening }
+    ensures { IfOk result (λ index. index ≡ tables_of opening) }
+{
+    openings_are_good();
+    let tables = tables_from(alloc, opening)?;
+    match Index::build(alloc, tables, catalogue, zones) {
+        Ok(index) => Ok(index),
+        Err(_) => Err(OutOfMemory),
+    }
+}
+
+// A run that ended before its conversation.
+fn early(alloc: Global, status: Status) -> RunEnd
+    ensures status { result.status ≡ status }
+    ensures trace { result.trace ≡ [] }
+{
+    RunEnd {
+        status,
+        trace: List::new(alloc),
+    }
+}
+
+// The conversation over the line, from the index's tables on.
+#[tactic(auto, using(crate::proofs::Endings::can_end, crate::proofs::Endings::no_words))]
+fn talk_over<L: Line, C: Clock>(alloc: Global, index: Index, line: &mut L, clock: &mut C) -> RunEnd
+    ensures ran { IfSome (L.left line.old) (λ input. RanFrom index result.status result.trace input (L.taken line.old) (L.taken line.new)) }
+    ensures ends { CanEnd result.status }
+    ensures talks { result.status ≡ Status.Words → ⊥ }
+    ensures moments { AppendsMoments (C.given clock.old) (C.given clock.new) (all_moments result.trace) }
+    ensures read_fault { result.status ≡ Status.ReadFault → Rose (L.read_faults line.old) (L.read_faults line.new) }
+    ensures write_fault { result.status ≡ Status.WriteFault → Rose (L.write_faults line.old) (L.write_faults line.new) }
+    ensures clock_fault { result.status ≡ Status.ClockFault → Rose (C.clock_faults clock.old) (C.clock_faults clock.new) }
+{
+    let talk = converse_alone(alloc, index, line, clock);
+    RunEnd {
+        status: status_of(talk.end),
+        trace: talk.trace,
+    }
+}
+
+// Makes the opening's tables and talks over the line.
+fn apply<L: Line, C: Clock>(
+    alloc: Global,
+    opening: Opening,
+    line: &mut L,
+    clock: &mut C,
+    catalogue: Catalogue,
+    zones: Zones,
+) -> RunEnd
+    requires { IsOpening opening }
+    ensures ran { (EndsEarly result.status × (line.new ≡ line.old) × (clock.new ≡ clock.old) × (result.trace ≡ []))
+        ⊎ IfSome (L.left line.old) (λ input. RanFrom (tables_of opening) result.status result.trace input (L.taken line.old) (L.taken line.new)) }
+    ensures ends { CanEnd result.status }
+    ensures talks { result.status ≡ Status.Words → ⊥ }
+    ensures moments { AppendsMoments (C.given clock.old) (C.given clock.new) (all_moments result.trace) }
+    ensures read_fault { result.status ≡ Status.ReadFault → Rose (L.read_faults line.old) (L.read_faults line.new) }
+    ensures write_fault { result.status ≡ Status.WriteFault → Rose (L.write_faults line.old) (L.write_faults line.new) }
+    ensures clock_fault { result.status ≡ Status.ClockFault → Rose (C.clock_faults clock.old) (C.clock_faults clock.new) }
+{
+    match index_of(alloc, opening, catalogue, zones) {
+        Ok(index) => talk_over(alloc, index, line, clock),
+        Err(_) => early(alloc, Status::OutOfMemory),
     }
 }
 
 /// Does what the words say over the line.
 ///
-/// By now that is `apply` with an opening: an empty input ends `Done`, every other input is refused as
-/// `BAD_HEAD`. The clock and the keeper aren't called yet, and the trace is empty.
+/// By now that is `apply` with an opening: the messages of the line are answered one after another, in the state that
+/// the opening made. The keeper isn't called yet.
 pub fn run<L: Line, C: Clock, P: Keeper>(
     alloc: Global,
     words: &[Text],
     line: &mut L,
-    _clock: &mut C,
+    clock: &mut C,
     _keeper: &mut P,
+    catalogue: Catalogue,
+    zones: Zones,
 ) -> RunEnd
     ensures words { result.status ≡ Status.Words → (plan : Plan) → ¬ IsPlan words.now plan }
-    ensures kept { result.status ≡ Status.Words → line.new ≡ line.old }
-    ensures plan { (result.status ≡ Status.Words → ⊥) → (result.status ≡ Status.OutOfMemory → ⊥) → ((plan : Plan) × IsPlan words.now plan) }
-    ensures answers { (result.status ≡ Status.Words → ⊥) → IfSome (L.left line.old) (λ input. Answers result.status input (L.taken line.old) (L.taken line.new)) }
-    ensures ends { (result.status ≡ Status.Words → ⊥) → CanEnd result.status }
+    ensures ran { (EndsEarly result.status × (line.new ≡ line.old) × (clock.new ≡ clock.old) × (result.trace ≡ []))
+        ⊎ ((opening : AnOpening) × IsPlan words.now (Plan.Apply opening) × IfSome (L.left line.old) (λ input. RanFrom (tables_of opening) result.status result.trace input (L.taken line.old) (L.taken line.new))) }
+    ensures ends { CanEnd result.status }
+    ensures moments { AppendsMoments (C.given clock.old) (C.given clock.new) (all_moments result.trace) }
     ensures read_fault { result.status ≡ Status.ReadFault → Rose (L.read_faults line.old) (L.read_faults line.new) }
     ensures write_fault { result.status ≡ Status.WriteFault → Rose (L.write_faults line.old) (L.write_faults line.new) }
-    ensures trace { result.trace ≡ [] }
+    ensures clock_fault { result.status ≡ Status.ClockFault → Rose (C.clock_faults clock.old) (C.clock_faults clock.new) }
+    ensures keeper { _keeper.new ≡ _keeper.old }
 {
-    RunEnd {
-        status: status_of(alloc, words, line),
-        trace: List::new(alloc),
+    match plan_of(alloc, words) {
+        Ok(plan) => apply(alloc, opening_of(plan), line, clock, catalogue, zones),
+        Err(PlanStop::Words) => early(alloc, Status::Words),
+        Err(PlanStop::OutOfMemory) => early(alloc, Status::OutOfMemory),
     }
 }

@@ -1,8 +1,9 @@
 //! The program: it makes the words, the line, the clock and the keeper, and hands them to the run.
 #![tactic(auto)]
 
-use iam_outer::{List, MemoryKeeper, Pair, StdinSource, StdoutSink, SystemClock, Text};
+use iam_outer::{List, MemoryKeeper, Pair, StdinSource, StdoutSink, SystemClock, Text, Zones};
 use iam_server::{Status, run};
+use iam_tables::Catalogue;
 use std::alloc::Global;
 use std::io::ErrorKind;
 use std::process::ExitCode;
@@ -30,10 +31,22 @@ fn words_of<R: Env + AllocGlobal>(rt: &R) -> Result<List<Text>, Status> {
 
 fn run_words(rt: &HostRuntime, words: &[Text]) -> Status {
     let alloc: Global = rt.alloc();
+    let Ok(catalogue) = Catalogue::built_in(alloc) else {
+        return Status::OutOfMemory;
+    };
     let mut line = Pair::new(StdinSource::new(rt.stdin()), StdoutSink::new(rt.stdout()));
     let mut clock = SystemClock::new(*rt);
     let mut keeper = MemoryKeeper::new(alloc, List::new(alloc), List::new(alloc));
-    run(alloc, words, &mut line, &mut clock, &mut keeper).status
+    run(
+        alloc,
+        words,
+        &mut line,
+        &mut clock,
+        &mut keeper,
+        catalogue,
+        Zones::none(alloc),
+    )
+    .status
 }
 
 fn status_of(rt: &HostRuntime) -> Status {
