@@ -1,8 +1,8 @@
 -- A policy that is accepted keeps the tables good.
-use Rattle.std.proofs.Common.{◌≡◌, ℕ, suc, ◌+◌, ◌<◌, ◌≤◌, Bool, true, false, not, cond, List, [], ◌∷◌, filter, length, Some, None, refl, subst, arith}
+use Rattle.std.proofs.Common.{◌≡◌, ℕ, suc, ◌+◌, ◌<◌, ◌≤◌, Bool, true, false, not, cond, List, [], ◌∷◌, ◌++◌, filter, length, Some, None, refl, sym, ap, subst, ◌∙◌, arith}
 use Rattle.std.specs.Prelude.{nat_lt}
 use Rattle.std.specs.Bool.{◌==◌}
-use Rattle.std.specs.List.{All, find}
+use Rattle.std.specs.List.{All, find, flat_map}
 use Rattle.std.specs.Option.{option_map}
 use Rattle.std.specs.Cmp.{IsTotalOrder}
 use Rattle.std.proofs.lemmas.Bool.{leb-false, eq-eqb}
@@ -14,6 +14,7 @@ use Rattle.iam_names.specs.Node.{node_id_text}
 use Rattle.iam_names.specs.declared.node.NodeId.{NodeId}
 use Rattle.iam_names.specs.declared.node.NodeName.{NodeName}
 use Rattle.iam_names.specs.declared.node.NodeName.TheVariants.{Organization, Folder, ProjectNumber, ProjectId}
+use Rattle.iam_names.specs.declared.member.Member.{Member}
 use Rattle.iam_types.specs.declared.allow.AllowPolicy.{AllowPolicy}
 use Rattle.iam_types.specs.declared.allow.Binding.{Binding}
 use Rattle.iam_types.specs.declared.refusal.LimitName.{LimitName}
@@ -22,7 +23,7 @@ use Rattle.iam_types.specs.declared.tables.Tables.{Tables}
 use Rattle.iam_model.specs.AdmitAllow.{beyond, unknown_role}
 use Rattle.iam_model.specs.ApplyAllow.{policy_after, set_policy}
 use Rattle.iam_model.specs.Entries.{IsGiven}
-use Rattle.iam_model.specs.Good.{Good, IsStored, POLICY_MEMBERS, MEMBERS, CHANGES, count_members, count_all_members, has_members, is_role}
+use Rattle.iam_model.specs.Good.{Good, IsStored, POLICY_MEMBERS, POLICY_GROUPS, MEMBERS, CHANGES, count_members, count_groups, count_all_members, different, group_of, groups_in, has_members, is_empty_list, is_role}
 use Rattle.iam_model.specs.Nodes.{exists, organization_of, resolve}
 use Rattle.iam_model.specs.Order.{allow_order}
 
@@ -46,7 +47,7 @@ resolved_exists tables (ProjectNumber number) node found = absurd (cc)
 resolved_exists tables (ProjectId id) node found = absurd (cc)
 
 -- what is kept of the given bindings can be stored
-kept_stored : (bindings : List Binding) → All IsGiven bindings → All IsStored (filter has_members bindings)
+pub kept_stored : (bindings : List Binding) → All IsGiven bindings → All IsStored (filter has_members bindings)
 kept_stored [] given = All-nil IsStored
 kept_stored (binding ∷ bindings) given =
     let first : IsGiven binding = All-head IsGiven binding bindings given in
@@ -68,6 +69,22 @@ kept_counts (binding ∷ bindings) =
       | false ↦ λ is. rw (is, all) (omega (arith, more))
     ] refl
 
+no_groups : (members : List Member) → not (is_empty_list members) ≡ false → flat_map group_of members ≡ []
+no_groups [] h = refl
+no_groups (member ∷ members) h = absurd (cc)
+
+-- the bindings that are kept name the same groups
+kept_groups : (bindings : List Binding) → groups_in (filter has_members bindings) ≡ groups_in bindings
+kept_groups [] = refl
+kept_groups (binding ∷ bindings) =
+    elim (has_members binding) as (λ b. has_members binding ≡ b → groups_in (filter has_members (binding ∷ bindings)) ≡ groups_in (binding ∷ bindings)) [
+      | true ↦ λ is. rw is (ap (λ (groups : List (List ℕ)). flat_map group_of binding.members ++ groups) (kept_groups bindings))
+      | false ↦ λ is. rw is (kept_groups bindings ∙ sym (ap (λ (groups : List (List ℕ)). groups ++ groups_in bindings) (no_groups binding.members is)))
+    ] refl
+
+kept_counts_groups : (bindings : List Binding) → count_groups (filter has_members bindings) ≡ count_groups bindings
+kept_counts_groups bindings = ap (λ (groups : List (List ℕ)). length (different groups)) (kept_groups bindings)
+
 -- a limit that isn't exceeded
 pub within_limit : (counted limit : ℕ) (which : LimitName) → beyond counted limit which ≡ None → counted ≤ limit
 within_limit counted limit which fine = go (nat_lt limit counted) refl fine
@@ -87,15 +104,16 @@ known_roles tables (binding ∷ bindings) none =
 
 -- the tables with another policy
 pub set_keeps_good : (tables : Tables) (node : NodeId) (bindings : List Binding) → Good tables → All IsGiven bindings → exists tables node ≡ true
-    → unknown_role tables bindings ≡ None → count_members bindings ≤ POLICY_MEMBERS
+    → unknown_role tables bindings ≡ None → count_members bindings ≤ POLICY_MEMBERS → count_groups bindings ≤ POLICY_GROUPS
     → count_all_members (set_policy tables node bindings).allows ≤ MEMBERS → tables.org.changes + 1 ≤ CHANGES → Good (set_policy tables node bindings)
-set_keeps_good tables node bindings good given there roles few all_few changes =
+set_keeps_good tables node bindings good given there roles few few_groups all_few changes =
     let policy : AllowPolicy = policy_after tables node bindings in
     let counts : count_members (filter has_members bindings) ≤ count_members bindings = kept_counts bindings in
     record {
       org = record { number = good.org.number; domain = good.org.domain; customer = good.org.customer };
       stored = All-put (λ (p : AllowPolicy). All IsStored p.bindings) allow_order policy tables.allows (kept_stored bindings given) good.stored;
       ordered = put-IsInOrder allow_order allow_order_total policy tables.allows good.ordered;
+      numbers = record { first = good.numbers.first; last = omega (arith, good.numbers.last) };
       policies = record {
         nodes = All-put (λ (p : AllowPolicy). exists tables p.node ≡ true) allow_order policy tables.allows there good.policies.nodes;
         roles = All-put (λ (p : AllowPolicy). All (λ (b : Binding). is_role tables b.role ≡ true) p.bindings) allow_order policy tables.allows
@@ -103,6 +121,7 @@ set_keeps_good tables node bindings good given there roles few all_few changes =
       };
       limits = record {
         policies = All-put (λ (p : AllowPolicy). count_members p.bindings ≤ POLICY_MEMBERS) allow_order policy tables.allows (omega (arith, counts, few)) good.limits.policies;
+        groups = All-put (λ (p : AllowPolicy). count_groups p.bindings ≤ POLICY_GROUPS) allow_order policy tables.allows (subst (λ (n : ℕ). n ≤ POLICY_GROUPS) (sym (kept_counts_groups bindings)) few_groups) good.limits.groups;
         members = all_few;
         changes = changes;
       };

@@ -9,14 +9,14 @@ use Rattle.iam_names.specs.declared.node.NodeName.{NodeName}
 use Rattle.iam_types.specs.declared.allow.Binding.{Binding}
 use Rattle.iam_types.specs.declared.command.Command.{Command}
 use Rattle.iam_types.specs.declared.command.Command.TheVariants.{SetAllow}
-use Rattle.iam_types.specs.declared.refusal.LimitName.TheVariants.{PolicyMembers, Members, Changes}
+use Rattle.iam_types.specs.declared.refusal.LimitName.TheVariants.{PolicyMembers, PolicyGroups, Members, Changes}
 use Rattle.iam_types.specs.declared.tables.Tables.{Tables}
 use Rattle.iam_model.specs.Admit.{rules_of}
 use Rattle.iam_model.specs.AdmitAllow.{missing, may_not_set, other_etag, wrong_version, unknown_role, rules_at, set_allow_rules}
 use Rattle.iam_model.specs.Apply.{after_command}
 use Rattle.iam_model.specs.ApplyAllow.{after_set_allow, set_policy}
 use Rattle.iam_model.specs.Entries.{IsCommand, IsGiven}
-use Rattle.iam_model.specs.Good.{Good, POLICY_MEMBERS, MEMBERS, CHANGES, count_members, count_all_members}
+use Rattle.iam_model.specs.Good.{Good, POLICY_MEMBERS, POLICY_GROUPS, MEMBERS, CHANGES, count_members, count_groups, count_all_members}
 use Rattle.iam_model.specs.Nodes.{resolve}
 use Rattle.iam_model.specs.Refusals.{first_of}
 use Rattle.iam_model.proofs.KeepAllow.{resolved_exists, set_keeps_good, within_limit}
@@ -33,6 +33,7 @@ pub record SetAccepted (tables : Tables) (caller : Caller) (moment : Moment) (no
   pub version_is : wrong_version tables node version etag bindings ≡ None
   pub roles : unknown_role tables bindings ≡ None
   pub policy_members : count_members bindings ≤ POLICY_MEMBERS
+  pub policy_groups : count_groups bindings ≤ POLICY_GROUPS
   pub members : count_all_members (set_policy tables node bindings).allows ≤ MEMBERS
   pub changes : tables.org.changes + 1 ≤ CHANGES
 
@@ -44,7 +45,8 @@ set_accepted tables caller moment node version etag bindings accepted =
     let version_is = first_of-None _ _ current.1 in
     let roles = first_of-None _ _ version_is.1 in
     let policy_members = first_of-None _ _ roles.1 in
-    let members = first_of-None _ _ policy_members.1 in
+    let policy_groups = first_of-None _ _ policy_members.1 in
+    let members = first_of-None _ _ policy_groups.1 in
     let changes = first_of-None _ _ members.1 in
     record {
       allowed = allowed.0;
@@ -52,6 +54,7 @@ set_accepted tables caller moment node version etag bindings accepted =
       version_is = version_is.0;
       roles = roles.0;
       policy_members = within_limit (count_members bindings) POLICY_MEMBERS PolicyMembers policy_members.0;
+      policy_groups = within_limit (count_groups bindings) POLICY_GROUPS PolicyGroups policy_groups.0;
       members = within_limit (count_all_members (set_policy tables node bindings).allows) MEMBERS Members members.0;
       changes = within_limit (tables.org.changes + 1) CHANGES Changes changes.0;
     }
@@ -67,7 +70,7 @@ keeps_set_allow tables caller moment name version etag bindings good given accep
     go None is fine = good
     go (Some node) is fine =
         let accepted_there = set_accepted tables caller moment node version etag bindings fine in
-        set_keeps_good tables node bindings good given (resolved_exists tables name node is) accepted_there.roles accepted_there.policy_members accepted_there.members accepted_there.changes
+        set_keeps_good tables node bindings good given (resolved_exists tables name node is) accepted_there.roles accepted_there.policy_members accepted_there.policy_groups accepted_there.members accepted_there.changes
 
 pub keeps : (tables : Tables) (caller : Caller) (moment : Moment) (command : Command) → Good tables → IsCommand command
     → first_of (rules_of tables caller moment command) ≡ None → Good (after_command tables command)

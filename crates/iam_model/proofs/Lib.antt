@@ -1,6 +1,9 @@
 pub mod Counting
+pub mod Facts
+pub mod Given
 pub mod Histories
 pub mod KeepAllow
 pub mod Keeping
 pub mod Leading
 pub mod Opens
+pub mod Puts

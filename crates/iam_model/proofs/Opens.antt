@@ -6,11 +6,13 @@ use Rattle.std.proofs.lemmas.Bool.{eq-eqb}
 use Rattle.std.proofs.lemmas.List.Elements.{All-cons, All-nil}
 use Rattle.iam_names.specs.Member.{IsMember}
 use Rattle.iam_names.specs.Role.{IsRoleName}
+use Rattle.iam_names.specs.declared.member.Member.{Member}
+use Rattle.iam_names.specs.declared.member.Member.TheVariants.{Group}
 use Rattle.iam_types.specs.declared.allow.AllowPolicy.{AllowPolicy}
 use Rattle.iam_types.specs.declared.allow.Binding.{Binding}
 use Rattle.iam_types.specs.declared.tables.Opening.{Opening}
 use Rattle.iam_types.specs.declared.tables.Tables.{Tables}
-use Rattle.iam_model.specs.Good.{Good, IsStored, count_members, is_role, POLICY_MEMBERS}
+use Rattle.iam_model.specs.Good.{Good, IsStored, count_groups, count_members, is_role, POLICY_GROUPS, POLICY_MEMBERS}
 use Rattle.iam_model.specs.Nodes.{exists, organization_of}
 use Rattle.iam_model.specs.Opening.{IsOpening, opening_tables, organization_admin}
 use Rattle.iam_model.specs.Order.{allow_order}
@@ -27,6 +29,10 @@ administrators_have_a_role = refl
 role_is_formed : IsRoleName organization_admin
 role_is_formed = (lit≤ tt, lit≤ tt, refl)
 
+few_groups : (member : Member) → count_groups (record { role = organization_admin; members = member ∷ []; condition = None } ∷ []) ≤ POLICY_GROUPS
+few_groups (Group email) = lit≤ tt
+few_groups member = lit≤ tt
+
 pub opens_good : (opening : Opening) → IsOpening opening → Good (opening_tables opening)
 opens_good opening formed =
     let tables : Tables = opening_tables opening in
@@ -37,6 +43,7 @@ opens_good opening formed =
       org = record { number = formed.number; domain = formed.domain; customer = formed.customer };
       stored = All-one (λ (p : AllowPolicy). All IsStored p.bindings) policy (All-one IsStored binding stored);
       ordered = (All-nil (λ (p : AllowPolicy). allow_order policy p ≡ Less), tt);
+      numbers = record { first = lit≤ tt; last = lit≤ tt };
       policies = record {
         nodes = All-one (λ (p : AllowPolicy). exists tables p.node ≡ true) policy (eq-eqb opening.number opening.number refl);
         roles = All-one (λ (p : AllowPolicy). All (λ (b : Binding). is_role tables b.role ≡ true) p.bindings) policy
@@ -44,6 +51,7 @@ opens_good opening formed =
       };
       limits = record {
         policies = All-one (λ (p : AllowPolicy). count_members p.bindings ≤ POLICY_MEMBERS) policy (lit≤ tt);
+        groups = All-one (λ (p : AllowPolicy). count_groups p.bindings ≤ POLICY_GROUPS) policy (few_groups opening.admin);
         members = lit≤ tt;
         changes = lit≤ tt;
       };

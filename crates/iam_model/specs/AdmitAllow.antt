@@ -15,13 +15,13 @@ use Rattle.iam_types.specs.declared.query.Decision.{Decision}
 use Rattle.iam_types.specs.declared.query.Decision.TheVariants.{Allowed, DeniedBoundary, DeniedRule, NotGranted as NothingGrants}
 use Rattle.iam_types.specs.declared.query.Query.{Query}
 use Rattle.iam_types.specs.declared.refusal.LimitName.{LimitName}
-use Rattle.iam_types.specs.declared.refusal.LimitName.TheVariants.{PolicyMembers, Members, Changes}
+use Rattle.iam_types.specs.declared.refusal.LimitName.TheVariants.{PolicyMembers, PolicyGroups, Members, Changes}
 use Rattle.iam_types.specs.declared.refusal.Refusal.{Refusal}
 use Rattle.iam_types.specs.declared.refusal.Refusal.TheVariants.{NotFound, DeniedBoundary as ByBoundary, DeniedRule as ByRule, NotGranted, EtagMismatch, Version, RoleUnknown, Limit}
 use Rattle.iam_types.specs.declared.tables.Tables.{Tables}
 use Rattle.iam_model.specs.ApplyAllow.{set_policy}
 use Rattle.iam_model.specs.Decide.{decide, policy_of}
-use Rattle.iam_model.specs.Good.{POLICY_MEMBERS, MEMBERS, CHANGES, count_members, count_all_members, is_role}
+use Rattle.iam_model.specs.Good.{POLICY_MEMBERS, POLICY_GROUPS, MEMBERS, CHANGES, count_members, count_groups, count_all_members, is_role}
 use Rattle.iam_model.specs.Modified.{modified_roles}
 use Rattle.iam_model.specs.Nodes.{resolve}
 use Rattle.iam_model.specs.Refusals.{refused_if}
@@ -102,6 +102,7 @@ later_rules tables node version etag bindings =
     ∷ wrong_version tables node version etag bindings
     ∷ unknown_role tables bindings
     ∷ beyond (count_members bindings) POLICY_MEMBERS PolicyMembers
+    ∷ beyond (count_groups bindings) POLICY_GROUPS PolicyGroups
     ∷ beyond (count_all_members (set_policy tables node bindings).allows) MEMBERS Members
     ∷ beyond (tables.org.changes + 1) CHANGES Changes
     ∷ []

@@ -1,12 +1,14 @@
 -- What holds of the tables at every moment, a rule each.
-use Rattle.std.specs.Prelude.{◌≡◌, ℕ, ◌≤◌, ◌||◌, Bool, true, false, not, List, [], ◌∷◌, None, All, length, sum_by}
+use Rattle.std.specs.Prelude.{◌≡◌, ℕ, ◌≤◌, ◌||◌, Bool, true, false, not, cond, List, [], ◌∷◌, None, All, flat_map, length, sum_by}
 use Rattle.std.specs.List.{list_any}
+use Rattle.std.specs.Str.{bytes_eq}
 use Rattle.iam_text.specs.Put.{IsInOrder}
 use Rattle.iam_names.specs.Domain.{IsDomain, IsCustomer}
 use Rattle.iam_names.specs.Member.{IsMember}
 use Rattle.iam_names.specs.Number.{IsNodeNumber}
 use Rattle.iam_names.specs.Role.{IsRoleName}
 use Rattle.iam_names.specs.declared.member.Member.{Member}
+use Rattle.iam_names.specs.declared.member.Member.TheVariants.{Group}
 use Rattle.iam_names.specs.declared.role.RoleName.{RoleName}
 use Rattle.iam_types.specs.declared.allow.AllowPolicy.{AllowPolicy}
 use Rattle.iam_types.specs.declared.allow.Binding.{Binding}
@@ -27,6 +29,9 @@ MEMBERS = 100000
 abbrev pub CHANGES : ℕ
 CHANGES = 1000000000000000
 
+abbrev pub POLICY_GROUPS : ℕ
+POLICY_GROUPS = 250
+
 abbrev pub is_empty_list : List Member → Bool
 is_empty_list [] = true
 is_empty_list (member ∷ members) = false
@@ -40,6 +45,24 @@ count_members bindings = sum_by (λ binding. length binding.members) bindings
 
 abbrev pub count_all_members : List AllowPolicy → ℕ
 count_all_members allows = sum_by (λ policy. count_members policy.bindings) allows
+
+-- the group that a member names, alone or none
+abbrev pub group_of : Member → List (List ℕ)
+group_of (Group email) = email ∷ []
+group_of member = []
+
+-- the groups that a policy names, as often as they stand there
+abbrev pub groups_in : List Binding → List (List ℕ)
+groups_in bindings = flat_map (λ binding. flat_map group_of binding.members) bindings
+
+-- the texts, each once
+abbrev pub different : List (List ℕ) → List (List ℕ)
+different [] = []
+different (text ∷ texts) = cond (list_any (bytes_eq text) texts) (different texts) (text ∷ different texts)
+
+-- different groups
+abbrev pub count_groups : List Binding → ℕ
+count_groups bindings = length (different (groups_in bindings))
 
 -- a predefined role, or a custom one of the tables
 abbrev pub is_role : Tables → RoleName → Bool
@@ -62,8 +85,14 @@ pub record PoliciesStand (tables : Tables) : Type 0 where
   pub nodes : All (λ policy. exists tables policy.node ≡ true) tables.allows
   pub roles : All (λ policy. All (λ binding. is_role tables binding.role ≡ true) policy.bindings) tables.allows
 
+-- the next number for a thing is no lower than 1, and each of those before it was given by a change
+pub record NumbersFit (tables : Tables) : Type 0 where
+  pub first : 1 ≤ tables.org.next
+  pub last : tables.org.next ≤ tables.org.changes
+
 pub record WithinLimits (tables : Tables) : Type 0 where
   pub policies : All (λ policy. count_members policy.bindings ≤ POLICY_MEMBERS) tables.allows
+  pub groups : All (λ policy. count_groups policy.bindings ≤ POLICY_GROUPS) tables.allows
   pub members : count_all_members tables.allows ≤ MEMBERS
   pub changes : tables.org.changes ≤ CHANGES
 
@@ -88,6 +117,7 @@ pub record Good (tables : Tables) : Type 0 where
   pub org : IsOrg tables.org
   pub stored : All (λ policy. All IsStored policy.bindings) tables.allows
   pub ordered : IsInOrder allow_order tables.allows
+  pub numbers : NumbersFit tables
   pub policies : PoliciesStand tables
   pub limits : WithinLimits tables
   pub sets : SetByChanges tables

@@ -2,9 +2,11 @@ pub mod Admit
 pub mod AdmitAllow
 pub mod Apply
 pub mod ApplyAllow
+pub mod Broken
 pub mod Catalogue
 pub mod Decide
 pub mod Entries
+pub mod Facts
 pub mod First
 pub mod Good
 pub mod History

@@ -1,13 +1,22 @@
-ghost use Rattle.std.specs.Prelude.{◌≡◌, ◌+◌, ◌++◌, ◌∷◌, [], ◌<◌, ◌^◌, List, Some, None, All, length};
+ghost use Rattle.std.specs.Prelude.{◌≡◌, ◌↔◌, ℕ, ◌+◌, ◌++◌, ◌∷◌, [], ◌<◌, ◌^◌, List, Some, None, All, Contains, length, map};
+ghost use Rattle.iam_text.specs.Put.{placed, IsInOrder};
+ghost use Rattle.iam_names.specs.declared.node.NodeId.{NodeId};
+ghost use Rattle.iam_names.specs.declared.node.NodeName.{NodeName};
 ghost use Rattle.iam_names.specs.declared.node.NodeName.TheVariants.{Organization};
 ghost use Rattle.iam_types.specs.declared.allow.Binding.{Binding};
+ghost use Rattle.iam_types.specs.declared.fact.Fact.{Fact};
+ghost use Rattle.iam_types.specs.declared.fact.FactChange.TheVariants.{Put};
+ghost use Rattle.iam_types.specs.declared.node.Org.{Org};
 ghost use Rattle.iam_types.specs.declared.query.Query.{Query};
 ghost use Rattle.iam_types.specs.declared.tables.Opening.{Opening};
 ghost use Rattle.iam_types.specs.declared.tables.Tables.{Tables};
 ghost use Rattle.iam_types.specs.declared.command.Entry.{Entry};
 ghost use Rattle.iam_model.specs.Admit.{admission};
 ghost use Rattle.iam_model.specs.Apply.{after};
-ghost use Rattle.iam_model.specs.Entries.{IsEntry};
+ghost use Rattle.iam_model.specs.ApplyAllow.{after_set_allow};
+ghost use Rattle.iam_model.specs.Broken.{AreApart, GiveTables, IsFirstBroken, orgs_in, tables_with};
+ghost use Rattle.iam_model.specs.Entries.{IsEntry, IsGiven};
+ghost use Rattle.iam_model.specs.Facts.{IsChange, IsFact, fact_order, facts_of, set_changes, with_changes};
 ghost use Rattle.iam_model.specs.Decide.{binding_grants, leading};
 ghost use Rattle.iam_model.specs.First.{IsFirstOf};
 ghost use Rattle.iam_model.specs.Good.{Good};
@@ -59,4 +68,64 @@ pub fn histories_grow()
 /// The number of a state is that of the tables at first and the length of the history.
 pub fn histories_are_counted()
     ensures { (tables : Tables) (entries : List Entry) → Legal tables entries → (state tables entries).org.changes ≡ tables.org.changes + length entries }
+{}
+
+/// The facts of good tables are well formed.
+pub fn facts_are_formed()
+    ensures { (tables : Tables) → Good tables → All IsFact (facts_of tables) }
+{}
+
+/// The facts of good tables are in the order of rows, at most one of a part and name.
+pub fn facts_are_in_order()
+    ensures { (tables : Tables) → Good tables → IsInOrder fact_order (facts_of tables) }
+{}
+
+/// Good tables are told by their facts.
+pub fn facts_tell_tables()
+    ensures { (a b : Tables) → Good a → Good b → facts_of a ≡ facts_of b → a ≡ b }
+{}
+
+/// Facts in order are in their places, at most one in each.
+pub fn ordered_facts_are_placed()
+    ensures { (facts : List Fact) → IsInOrder fact_order facts → (placed fact_order facts ≡ facts) × AreApart facts }
+{}
+
+/// Facts in order are those that are put one after another.
+pub fn facts_are_put()
+    ensures { (facts : List Fact) → IsInOrder fact_order facts → with_changes [] (map Put facts) ≡ facts }
+{}
+
+/// What the setting of a policy changes leads from the facts before it to those after it.
+pub fn set_changes_lead()
+    ensures { (tables : Tables) (name : NodeName) (node : NodeId) (bindings : List Binding) → resolve tables name ≡ Some node → with_changes (facts_of tables) (set_changes tables node bindings) ≡ facts_of (after_set_allow tables name bindings) }
+{}
+
+/// The facts that the setting of a policy puts are well formed.
+pub fn set_changes_are_formed()
+    ensures { (tables : Tables) (name : NodeName) (node : NodeId) (bindings : List Binding) → Good tables → resolve tables name ≡ Some node → All IsGiven bindings → All IsChange (set_changes tables node bindings) }
+{}
+
+/// Well formed facts that give tables give good ones, whose facts are those in their places.
+pub fn given_tables_are_good()
+    ensures { (facts : List Fact) (tables : Tables) → All IsFact facts → GiveTables facts tables → Good tables × (facts_of tables ≡ placed fact_order facts) }
+{}
+
+/// The facts of good tables give them back, in any order.
+pub fn good_tables_are_given()
+    ensures { (facts : List Fact) (tables : Tables) → Good tables → AreApart facts → ((fact : Fact) → Contains facts fact ↔ Contains (facts_of tables) fact) → GiveTables facts tables }
+{}
+
+/// Facts that break a rule give no tables.
+pub fn broken_facts_give_none()
+    ensures { (facts : List Fact) (tables : Tables) (rule : ℕ) → GiveTables facts tables → IsFirstBroken facts rule → ⊥ }
+{}
+
+/// The facts of the tables with an organisation and facts are the facts in their places.
+pub fn tables_have_placed_facts()
+    ensures { (facts : List Fact) (org : Org) → All IsFact facts → orgs_in facts ≡ org ∷ [] → facts_of (tables_with org facts) ≡ placed fact_order facts }
+{}
+
+/// Facts are apart exactly where each has a place of its own.
+pub fn apart_facts_are_counted()
+    ensures { (facts : List Fact) → (length (placed fact_order facts) ≡ length facts) ↔ AreApart facts }
 {}

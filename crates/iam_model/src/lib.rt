@@ -7,7 +7,9 @@
 mod laws;
 
 pub use laws::{
-    changes_are_countable, changes_keep_good, grants_are_first, histories_are_counted,
-    histories_grow, histories_keep_good, openings_are_good, organization_is_named,
-    policies_are_countable,
+    apart_facts_are_counted, broken_facts_give_none, changes_are_countable, changes_keep_good,
+    facts_are_formed, facts_are_in_order, facts_are_put, facts_tell_tables, given_tables_are_good,
+    good_tables_are_given, grants_are_first, histories_are_counted, histories_grow,
+    histories_keep_good, openings_are_good, ordered_facts_are_placed, organization_is_named,
+    policies_are_countable, set_changes_are_formed, set_changes_lead, tables_have_placed_facts,
 };

@@ -1,0 +1,5 @@
+use Rattle.iam_model.proofs.Facts.{told}
+use Rattle.iam_model.proofs.laws.facts_tell_tables.Goals as goal
+
+pub returns : goal.returns
+returns c = told
