@@ -1,12 +1,23 @@
-//! The catalogue of permissions and predefined roles, and the tables that an organisation starts from.
+//! The catalogue of permissions and predefined roles, the tables that an organisation starts from, and the tables
+//! of facts.
 //!
 //! A `Catalogue` holds exactly the table of `iam_model`'s definitions. What the tables are is told by their fields.
+//! `facts_of` gives the facts that are kept of tables, `from_facts` the tables again, or the first rule that facts
+//! break.
 #![tactic(auto)]
 
 mod catalogue;
 mod change;
 mod change_allow;
+mod consistent;
 mod count;
+mod decided;
+mod facts;
+mod given;
+#[cfg(test)]
+mod given_tests;
+mod groups;
+mod limits;
 mod lines;
 mod opening;
 mod permits;
@@ -14,13 +25,20 @@ mod place;
 mod preset_lines;
 mod presets;
 mod reading;
+mod resource;
+mod stop;
 #[cfg(test)]
 mod tests;
+mod version;
 
 pub use catalogue::Catalogue;
 pub use change::apply;
 pub use change_allow::policy_after;
 pub use count::{count_members, members_after};
+pub use decided::unless_allowed;
+pub use facts::facts_of;
+pub use given::from_facts;
+pub use groups::count_groups;
 pub use iam_types::{
     AllowLine, AllowPolicy, Answer, Ask, Binding, BoundLine, Boundary, BoundaryBinding,
     BoundaryRule, Command, Condition, Decision, DenyLine, DenyPolicy, DenyRule, Edge, Entry,
@@ -28,6 +46,10 @@ pub use iam_types::{
     Org, Permit, Preset, Query, Refusal, Resource, ResourceFacts, Role, Shown, Stage, Tables,
     TagBinding, TagKey, TagValue, copy_binding, copy_condition, copy_org, copy_policy,
 };
+pub use limits::{CHANGES, MEMBERS, POLICY_GROUPS, POLICY_MEMBERS};
 pub use opening::opening_tables;
 pub use permits::permission_named;
 pub use reading::{is_permission, is_role, organization_of, policy_of, resolve, same_role};
+pub use resource::resource_facts_of;
+pub use stop::TablesStop;
+pub use version::is_version;

@@ -1,8 +1,8 @@
 // The permissions of the catalogue.
-ghost use Rattle.std.specs.Prelude.{◌≡◌, ◌++◌, IfOk, OnOk, map, string_bytes};
+ghost use Rattle.std.specs.Prelude.{◌≡◌, ◌++◌, IfOk, IsTrue, OnOk, map, string_bytes};
 ghost use Rattle.std.specs.List.{All, flat_map};
 ghost use Rattle.iam_names.specs.Permission.{IsPermission};
-ghost use Rattle.iam_model.specs.Catalogue.{permission_of, permit_of, permits_of};
+ghost use Rattle.iam_model.specs.Catalogue.{is_permission, permission_of, permit_of, permits_of};
 ghost use Rattle.iam_tables.specs.Lines.{line_of, IsNamed};
 
 use crate::lines::CatalogueLine;
@@ -22,8 +22,7 @@ fn permission_text(alloc: Global, line: &CatalogueLine, verb: &str) -> Result<St
     Ok(text)
 }
 
-/// The permission of a name that has the form of permissions.
-pub fn permission_named(alloc: Global, text: &str) -> Result<PermissionName, OutOfMemory>
+fn formed_permission(alloc: Global, text: &str) -> Result<PermissionName, OutOfMemory>
     requires { IsPermission text.now }
     ensures { IfOk result (λ name. name ≡ text.now) }
 {
@@ -31,6 +30,15 @@ pub fn permission_named(alloc: Global, text: &str) -> Result<PermissionName, Out
         Some(name) => Ok(name),
         None => unreachable!(),
     }
+}
+
+/// The permission of the catalogue with this name.
+#[tactic(auto, using(crate::proofs::Named::known_is_formed))]
+pub fn permission_named(alloc: Global, text: &str) -> Result<PermissionName, OutOfMemory>
+    requires { IsTrue (is_permission text.now) }
+    ensures { IfOk result (λ name. name ≡ text.now) }
+{
+    formed_permission(alloc, text)
 }
 
 /// The permission of a line with this verb.
@@ -43,7 +51,7 @@ pub fn permission(
     ensures { IfOk result (λ name. name ≡ permission_of (line_of line.now) verb.now) }
 {
     let text = permission_text(alloc, line, verb)?;
-    permission_named(alloc, text.as_str())
+    formed_permission(alloc, text.as_str())
 }
 
 fn permit(alloc: Global, line: &CatalogueLine, verb: &str) -> Result<Permit, OutOfMemory>

@@ -7,7 +7,7 @@ ghost use Rattle.iam_model.specs.Decide.{policy_of as the_policy};
 ghost use Rattle.iam_model.specs.Good.{is_role as role_is_known};
 ghost use Rattle.iam_model.specs.Presets.{is_preset as role_is_preset};
 ghost use Rattle.iam_model.specs.Same.{same_role as is_same_role};
-ghost use Rattle.iam_model.specs.Nodes.{exists, organization_of as the_organization, resolve as node_named};
+ghost use Rattle.iam_model.specs.Nodes.{exists as node_exists, organization_of as the_organization, resolve as node_named};
 
 use crate::Catalogue;
 use iam_names::{NodeId, NodeKind, NodeName, PermissionName, RoleName};
@@ -23,10 +23,17 @@ pub fn organization_of(tables: &Tables) -> NodeId
     }
 }
 
+/// Whether a node is there.
+pub fn exists(tables: &Tables, node: NodeId) -> bool
+    ensures { result ≡ node_exists tables.now node }
+{
+    node == organization_of(tables)
+}
+
 /// The node of a name, if it is there.
 pub fn resolve(tables: &Tables, name: &NodeName) -> Option<NodeId>
     ensures node { result ≡ node_named tables.now name.now }
-    ensures there { IfSome result (λ node. IsTrue (exists tables.now node)) }
+    ensures there { IfSome result (λ node. IsTrue (node_exists tables.now node)) }
 {
     match name {
         NodeName::Organization(number) => {

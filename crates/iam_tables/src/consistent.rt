@@ -1,0 +1,122 @@
+// The rules that tables of facts may break, a function each.
+ghost use Rattle.std.specs.Prelude.{◌≡◌, ◌↔◌, ◌≤◌, IfOk, IfSome, IfNone, IsTrue};
+ghost use Rattle.std.specs.List.{All, list_all};
+ghost use Rattle.iam_model.specs.Broken.{IsFirstBrokenBy, Keeps};
+ghost use Rattle.iam_model.specs.Good.{NumbersFit, PoliciesStand, SetByChanges, WithinLimits, count_groups as the_groups, count_members as the_count, is_role as role_is_known, POLICY_GROUPS as MOST_GROUPS, POLICY_MEMBERS as MOST_MEMBERS};
+ghost use Rattle.iam_model.specs.Nodes.{exists as node_exists};
+
+use crate::Catalogue;
+use crate::count::{count_all_members, count_members};
+use crate::groups::count_groups;
+use crate::limits::{CHANGES, MEMBERS, POLICY_GROUPS, POLICY_MEMBERS};
+use crate::reading::{exists, is_role};
+use iam_text::OutOfMemory;
+use iam_types::{AllowPolicy, Binding, Tables};
+use std::alloc::Global;
+
+fn numbers_fit(tables: &Tables) -> bool
+    ensures { IsTrue result ↔ NumbersFit tables.now }
+{
+    tables.org.next >= 1 && tables.org.next <= tables.org.changes
+}
+
+fn nodes_exist(tables: &Tables) -> bool
+    ensures { result ≡ list_all (λ policy. node_exists tables.now policy.node) tables.now.allows }
+{
+    tables
+        .allows
+        .as_slice()
+        .iter()
+        .all(|policy| exists(tables, policy.node))
+}
+
+fn are_known(tables: &Tables, catalogue: &Catalogue, bindings: &[Binding]) -> bool
+    ensures { result ≡ list_all (λ binding. role_is_known tables.now binding.role) bindings.now }
+{
+    bindings
+        .iter()
+        .all(|binding| is_role(tables, catalogue, &binding.role))
+}
+
+fn roles_are_known(tables: &Tables, catalogue: &Catalogue) -> bool
+    ensures { result ≡ list_all (λ policy. list_all (λ binding. role_is_known tables.now binding.role) policy.bindings) tables.now.allows }
+{
+    tables.allows.as_slice().iter().all(|policy| are_known(
+        tables,
+        catalogue,
+        policy.bindings.as_slice(),
+    ))
+}
+
+fn policies_stand(tables: &Tables, catalogue: &Catalogue) -> bool
+    ensures { IsTrue result ↔ PoliciesStand tables.now }
+{
+    nodes_exist(tables) && roles_are_known(tables, catalogue)
+}
+
+fn members_within(allows: &[AllowPolicy]) -> Result<bool, OutOfMemory>
+    ensures { IfOk result (λ within. IsTrue within ↔ All (λ policy. the_count policy.bindings ≤ MOST_MEMBERS) allows.now) }
+{
+    for policy in allows {
+        let count = count_members(policy.bindings.as_slice())?;
+        if count > POLICY_MEMBERS {
+            return Ok(false);
+        }
+    }
+    Ok(true)
+}
+
+fn groups_within(alloc: Global, allows: &[AllowPolicy]) -> Result<bool, OutOfMemory>
+    ensures { IfOk result (λ within. IsTrue within ↔ All (λ policy. the_groups policy.bindings ≤ MOST_GROUPS) allows.now) }
+{
+    for policy in allows {
+        let count = count_groups(alloc, policy.bindings.as_slice())?;
+        if count > POLICY_GROUPS {
+            return Ok(false);
+        }
+    }
+    Ok(true)
+}
+
+// The groups come behind the members, which bound their number.
+fn within_limits(alloc: Global, tables: &Tables) -> Result<bool, OutOfMemory>
+    ensures { IfOk result (λ within. IsTrue within ↔ WithinLimits tables.now) }
+{
+    let allows = tables.allows.as_slice();
+    if !members_within(allows)? {
+        return Ok(false);
+    }
+    if !groups_within(alloc, allows)? {
+        return Ok(false);
+    }
+    let members = count_all_members(allows)?;
+    Ok(members <= MEMBERS && tables.org.changes <= CHANGES)
+}
+
+fn set_by_changes(tables: &Tables) -> bool
+    ensures { IsTrue result ↔ SetByChanges tables.now }
+{
+    tables.allows.as_slice().iter().all(|policy| policy.set >= 1
+        && policy.set <= tables.org.changes)
+}
+
+/// The first rule that the tables break, by its number.
+pub fn broken_rule(alloc: Global, tables: &Tables) -> Result<Option<u8>, OutOfMemory>
+    ensures broken { IfOk result (λ broken. IfSome broken (IsFirstBrokenBy tables.now)) }
+    ensures kept { IfOk result (λ broken. IfNone broken (Keeps tables.now)) }
+{
+    if !numbers_fit(tables) {
+        return Ok(Some(6));
+    }
+    let catalogue = Catalogue::built_in(alloc)?;
+    if !policies_stand(tables, &catalogue) {
+        return Ok(Some(10));
+    }
+    if !within_limits(alloc, tables)? {
+        return Ok(Some(13));
+    }
+    if !set_by_changes(tables) {
+        return Ok(Some(14));
+    }
+    Ok(None)
+}
