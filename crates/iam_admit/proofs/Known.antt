@@ -1,11 +1,9 @@
 -- The permissions of the settings of policies are in the catalogue.
 use Rattle.std.specs.Prelude.{IsTrue}
 use Rattle.std.proofs.Common.{refl}
-use Rattle.iam_names.specs.Permission.{IsPermission}
 use Rattle.iam_names.specs.declared.node.NodeKind.{NodeKind}
 use Rattle.iam_names.specs.declared.node.NodeKind.TheVariants.{Organization, Folder, Project}
 use Rattle.iam_model.specs.Catalogue.{is_permission, lines, permits}
-use Rattle.iam_tables.proofs.Named.{named_shown}
 use Rattle.iam_model.specs.AdmitAllow.{set_permission}
 
 pub set_is_known : (kind : NodeKind) → IsTrue (is_permission (set_permission kind))
@@ -13,8 +11,3 @@ unfolding lines permits
 set_is_known Organization = refl
 set_is_known Folder = refl
 set_is_known Project = refl
-
-pub set_is_named : (kind : NodeKind) → IsPermission (set_permission kind)
-set_is_named Organization = named_shown (set_permission Organization) refl
-set_is_named Folder = named_shown (set_permission Folder) refl
-set_is_named Project = named_shown (set_permission Project) refl

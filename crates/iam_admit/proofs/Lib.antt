@@ -1,4 +1,2 @@
 pub mod Alike
 pub mod Known
-pub mod LeadingTo
-pub mod Ordered

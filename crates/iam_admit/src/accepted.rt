@@ -1,7 +1,8 @@
 // Whether an entry is accepted.
-ghost use Rattle.std.specs.Prelude.{◌≡◌, IfOk, IfErr, Some, None};
+ghost use Rattle.std.specs.Prelude.{◌≡◌, All, IfOk, IfErr, Some, None};
 ghost use Rattle.iam_model.specs.Admit.{admission};
 ghost use Rattle.iam_model.specs.Entries.{IsEntry};
+ghost use Rattle.iam_model.specs.Facts.{IsChange};
 ghost use Rattle.iam_admit.specs.Facts.{LeadTo};
 ghost use Rattle.iam_admit.specs.Follows.{Follows};
 
@@ -20,7 +21,9 @@ pub struct Accepted {
 
 // The changes of an entry that is accepted. The commands that can't be given yet change nothing.
 fn changes_of(alloc: Global, index: &Index, entry: &Entry) -> Result<List<FactChange>, AdmitStop>
+    requires { IsEntry entry.now }
     ensures follows { Follows result (admission index.now entry.now) }
+    ensures formed { IfOk result (λ changes. All IsChange changes) }
     ensures changes { IfOk result (LeadTo index.now entry.now) }
 {
     match &entry.command {
@@ -52,6 +55,7 @@ pub fn admit(
     requires { IsEntry entry.now }
     ensures refused { IfOk result (λ judged. IfErr judged (λ refusal. admission index.now entry.now ≡ Some refusal)) }
     ensures accepted { IfOk result (λ judged. IfOk judged (λ accepted. admission index.now entry.now ≡ None)) }
+    ensures formed { IfOk result (λ judged. IfOk judged (λ accepted. All IsChange accepted.changes)) }
     ensures changes { IfOk result (λ judged. IfOk judged (λ accepted. LeadTo index.now entry.now accepted.changes)) }
 {
     match changes_of(alloc, index, entry) {

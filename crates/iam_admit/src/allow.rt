@@ -1,12 +1,13 @@
 // The rules of the setting of an allow policy, a function each.
-ghost use Rattle.std.specs.Prelude.{◌≡◌, ◌+◌, ◌<◌, ◌^◌, not, IfOk};
+ghost use Rattle.std.specs.Prelude.{◌≡◌, ◌+◌, ◌<◌, ◌^◌, not, All, IfOk};
 ghost use Rattle.std.specs.List.{find};
 ghost use Rattle.std.specs.Option.{option_copied};
-ghost use Rattle.iam_model.specs.AdmitAllow.{any_conditional as has_conditions, bindings_at, etag_of as the_etag, is_version as version_is_one, is_wrong_version as is_wrong, later_rules, needs_third as third_is_needed, other_etag, set_allow_rules, unknown_role, wrong_version};
+ghost use Rattle.iam_model.specs.AdmitAllow.{any_conditional as has_conditions, bindings_at, etag_of as the_etag, is_wrong_version as is_wrong, later_rules, needs_third as third_is_needed, other_etag, set_allow_rules, unknown_role, wrong_version};
 ghost use Rattle.iam_model.specs.ApplyAllow.{after_set_allow};
+ghost use Rattle.iam_model.specs.Entries.{IsGiven};
+ghost use Rattle.iam_model.specs.Facts.{IsChange, facts_of as facts_of_tables, with_changes};
 ghost use Rattle.iam_model.specs.Good.{is_role as role_is_known};
 ghost use Rattle.iam_model.specs.Refusals.{first_of};
-ghost use Rattle.iam_admit.specs.Facts.{facts_of as facts_of_tables, with_changes};
 ghost use Rattle.iam_admit.specs.Follows.{Follows};
 
 use crate::changes::set_changes;
@@ -14,23 +15,14 @@ use crate::queries::may_set;
 use crate::rules::{found, within};
 use crate::stop::AdmitStop;
 use iam_judge::Index;
-use iam_model::changes_are_countable;
+use iam_model::{changes_are_countable, set_changes_are_formed, set_changes_lead};
 use iam_names::{Caller, NodeId, NodeName, copy_role_name};
 use iam_tables::{
-    Binding, Catalogue, FactChange, LimitName, Refusal, Tables, count_members, is_role,
-    members_after, policy_of,
+    Binding, CHANGES, Catalogue, FactChange, LimitName, MEMBERS, POLICY_GROUPS, POLICY_MEMBERS,
+    Refusal, Tables, count_groups, count_members, is_role, is_version, members_after, policy_of,
 };
 use iam_text::{List, Moment};
 use std::alloc::Global;
-
-/// The most member appearances in a policy.
-const POLICY_MEMBERS: u64 = 1_500;
-
-/// The most member appearances in all allow policies.
-const MEMBERS: u64 = 100_000;
-
-/// The most changes.
-const CHANGES: u64 = 1_000_000_000_000_000;
 
 fn etag_of(tables: &Tables, node: NodeId) -> u64
     ensures { result ≡ the_etag tables.now node }
@@ -68,12 +60,6 @@ fn any_stored_conditional(tables: &Tables, node: NodeId) -> bool
         Some(policy) => any_conditional(policy.bindings.as_slice()),
         None => false,
     }
-}
-
-fn is_version(version: u64) -> bool
-    ensures { result ≡ version_is_one version }
-{
-    version == 0 || version == 1 || version == 3
 }
 
 // The write gives a condition, or it was read with its etag where one is stored.
@@ -154,13 +140,14 @@ fn keeps_rules(
     has_roles(tables, index.catalogue(), bindings.as_slice())?;
     let given = count_members(bindings.as_slice())?;
     within(given, POLICY_MEMBERS, LimitName::PolicyMembers)?;
+    let groups = count_groups(alloc, bindings.as_slice())?;
+    within(groups, POLICY_GROUPS, LimitName::PolicyGroups)?;
     let members = members_after(alloc, tables, node, bindings)?;
     within(members, MEMBERS, LimitName::Members)?;
     within(tables.org.changes + 1, CHANGES, LimitName::Changes)
 }
 
 /// The changes of the setting of an allow policy, where no rule refuses it.
-#[tactic(auto, using(crate::proofs::LeadingTo::set_leads))]
 pub fn set_allow(
     alloc: Global,
     index: &Index,
@@ -171,10 +158,14 @@ pub fn set_allow(
     etag: Option<u64>,
     bindings: &List<Binding>,
 ) -> Result<List<FactChange>, AdmitStop>
+    requires { All IsGiven bindings.now }
     ensures follows { Follows result (first_of (set_allow_rules index.now caller.now moment name.now version etag bindings.now)) }
+    ensures formed { IfOk result (λ changes. All IsChange changes) }
     ensures changes { IfOk result (λ changes. with_changes (facts_of_tables index.now) changes ≡ facts_of_tables (after_set_allow index.now name.now bindings.now)) }
 {
     changes_are_countable();
+    set_changes_lead();
+    set_changes_are_formed();
     let tables = index.tables();
     let node = found(alloc, tables, name)?;
     may_set(alloc, index, caller, moment, node, bindings.as_slice())?;

@@ -1,8 +1,7 @@
 // The facts that an accepted command changes.
-ghost use Rattle.std.specs.Prelude.{◌≡◌, ◌+◌, ◌<◌, ◌^◌, [], ◌∷◌, IfOk};
-ghost use Rattle.iam_types.specs.declared.fact.Fact.TheVariants.{Allow as TheAllow, Org as TheOrg};
-ghost use Rattle.iam_types.specs.declared.fact.FactChange.TheVariants.{Put as IsPut};
-ghost use Rattle.iam_model.specs.ApplyAllow.{changed as the_org, policy_after as the_policy};
+ghost use Rattle.std.specs.Prelude.{◌≡◌, ◌+◌, ◌<◌, ◌^◌, IfOk};
+ghost use Rattle.iam_model.specs.ApplyAllow.{changed as the_org};
+ghost use Rattle.iam_model.specs.Facts.{set_changes as the_changes};
 
 use iam_names::NodeId;
 use iam_tables::{Binding, Fact, FactChange, Org, Tables, copy_org, policy_after};
@@ -26,7 +25,7 @@ pub fn set_changes(
     bindings: &List<Binding>,
 ) -> Result<List<FactChange>, OutOfMemory>
     requires { tables.now.org.changes + 1 < 2 ^ 64 }
-    ensures { IfOk result (λ changes. changes ≡ IsPut (TheAllow (the_policy tables.now node bindings.now)) ∷ IsPut (TheOrg (the_org tables.now.org)) ∷ []) }
+    ensures { IfOk result (λ changes. changes ≡ the_changes tables.now node bindings.now) }
 {
     let policy = policy_after(alloc, tables, node, bindings)?;
     let org = changed(&tables.org)?;

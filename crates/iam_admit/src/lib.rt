@@ -7,7 +7,6 @@
 mod accepted;
 mod allow;
 mod changes;
-mod laws;
 mod queries;
 mod rules;
 mod stop;
@@ -15,4 +14,3 @@ mod stop;
 mod tests;
 
 pub use accepted::{Accepted, admit};
-pub use laws::facts_are_in_order;

@@ -2,16 +2,15 @@
 ghost use Rattle.std.specs.Prelude.{◌≡◌, IfOk, IsTrue};
 ghost use Rattle.iam_model.specs.AdmitAllow.{may_not_set, set_permission};
 ghost use Rattle.iam_model.specs.Nodes.{exists};
-ghost use Rattle.iam_model.specs.ResourceFacts.{facts_of_node, kind_text};
 ghost use Rattle.iam_admit.specs.Follows.{Follows};
 ghost use Rattle.iam_admit.specs.Queries.{bare_query};
 
-use crate::rules::unless_allowed;
+use crate::rules::allowed;
 use crate::stop::AdmitStop;
 use iam_judge::Index;
 use iam_names::{Caller, NodeId, NodeKind, PermissionName, copy_caller, copy_permission};
-use iam_tables::{Binding, Query, ResourceFacts, permission_named};
-use iam_text::{List, Moment, OutOfMemory, Text};
+use iam_tables::{Binding, Query, permission_named, resource_facts_of};
+use iam_text::{List, Moment, OutOfMemory};
 use std::alloc::Global;
 
 fn set_text(kind: NodeKind) -> &'static str
@@ -22,26 +21,6 @@ fn set_text(kind: NodeKind) -> &'static str
         NodeKind::Folder => "resourcemanager.folders.setIamPolicy",
         NodeKind::Project => "resourcemanager.projects.setIamPolicy",
     }
-}
-
-fn kind_of(kind: NodeKind) -> &'static str
-    ensures { result.now ≡ kind_text kind }
-{
-    match kind {
-        NodeKind::Organization => "cloudresourcemanager.googleapis.com/Organization",
-        NodeKind::Folder => "cloudresourcemanager.googleapis.com/Folder",
-        NodeKind::Project => "cloudresourcemanager.googleapis.com/Project",
-    }
-}
-
-fn facts_of(alloc: Global, node: NodeId) -> Result<ResourceFacts, OutOfMemory>
-    ensures { IfOk result (λ facts. facts ≡ facts_of_node node) }
-{
-    Ok(ResourceFacts {
-        kind: Text::of(alloc, kind_of(node.kind))?,
-        service: Text::of(alloc, "cloudresourcemanager.googleapis.com")?,
-        name: node.text(alloc)?,
-    })
 }
 
 // The roles that the setting modifies are left out: conditions alone ask for them, and none is stored yet.
@@ -59,14 +38,14 @@ fn set_query(
         caller: copy_caller(caller)?,
         node,
         permission: copy_permission(permission)?,
-        resource: facts_of(alloc, node)?,
+        resource: resource_facts_of(alloc, node)?,
         moment,
         modified: List::new(alloc),
     })
 }
 
 /// The caller may set the policy there.
-#[tactic(auto, using(crate::proofs::Known::set_is_known, crate::proofs::Known::set_is_named))]
+#[tactic(auto, using(crate::proofs::Known::set_is_known))]
 pub fn may_set(
     alloc: Global,
     index: &Index,
@@ -81,5 +60,5 @@ pub fn may_set(
     let permission = permission_named(alloc, set_text(node.kind))?;
     let query = set_query(alloc, caller, moment, node, &permission)?;
     let decision = index.decision(alloc, &query)?;
-    unless_allowed(permission, decision)
+    allowed(permission, decision)
 }

@@ -8,7 +8,7 @@ ghost use Rattle.iam_admit.specs.Follows.{Follows};
 
 use crate::stop::AdmitStop;
 use iam_names::{NodeId, NodeName, PermissionName};
-use iam_tables::{Decision, LimitName, Refusal, Tables, resolve};
+use iam_tables::{Decision, LimitName, Refusal, Tables, resolve, unless_allowed};
 use iam_text::OutOfMemory;
 use std::alloc::Global;
 
@@ -31,19 +31,13 @@ pub fn found(alloc: Global, tables: &Tables, name: &NodeName) -> Result<NodeId, 
     }
 }
 
-/// What a decision refuses.
-pub fn unless_allowed(permission: PermissionName, decision: Decision) -> Result<(), AdmitStop>
+/// The decision on the permission allows.
+pub fn allowed(permission: PermissionName, decision: Decision) -> Result<(), AdmitStop>
     ensures { Follows result (refused_by permission decision) }
 {
-    match decision {
-        Decision::Allowed { .. } => Ok(()),
-        Decision::DeniedBoundary { binding } => {
-            Err(AdmitStop::Refused(Refusal::DeniedBoundary { binding }))
-        }
-        Decision::DeniedRule { policy, rule } => {
-            Err(AdmitStop::Refused(Refusal::DeniedRule { policy, rule }))
-        }
-        Decision::NotGranted => Err(AdmitStop::Refused(Refusal::NotGranted { permission })),
+    match unless_allowed(permission, decision) {
+        Some(refusal) => Err(AdmitStop::Refused(refusal)),
+        None => Ok(()),
     }
 }
 

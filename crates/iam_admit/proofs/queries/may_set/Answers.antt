@@ -8,8 +8,8 @@ use Rattle.iam_admit.proofs.queries.may_set.Goals as goal
 
 pub returns : goal.returns
 returns c =
-    subst (λ (refusal : Option Refusal). Follows c.unless_allowed.result refusal)
+    subst (λ (refusal : Option Refusal). Follows c.allowed.result refusal)
     (refusal_alike c.args.index.now c.args.caller.now c.args.moment c.args.node c.args._bindings.now _ _
     (c.in_ok-permission.ensures ∙ c.set_text.ensures)
     (c.in_ok-decision.ensures ∙ ap (λ (query : Query). decide c.args.index.now query) c.in_ok-query.ensures))
-    c.unless_allowed.ensures
+    c.allowed.ensures
