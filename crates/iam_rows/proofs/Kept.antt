@@ -13,7 +13,8 @@ use Rattle.iam_json_data.specs.Printed.{list_data}
 use Rattle.iam_json_data.specs.Shown.{member_data, binding_data}
 use Rattle.iam_json_data.specs.Reading.{Then, ReadsText, ReadsNumber, ReadsList, ReadsMember, ReadsRequired, present}
 use Rattle.iam_json_data.specs.Readers.{ReadsAbsent, ReadsBinding}
-use Rattle.iam_rows.specs.Facts.{Each, IsKeptBinding}
+use Rattle.std.specs.List.{AllByRecursion as Each}
+use Rattle.iam_rows.proofs.Formed.{IsKept}
 use Rattle.iam_rows.specs.Rows.{org_data, policy_data}
 use Rattle.iam_rows.specs.Bodies.{ReadsAnyText, ReadsCounts, ReadsOwner, ReadsOrgBody, ReadsPolicyBody}
 use Rattle.iam_rows.specs.declared.body.AnyText.{AnyText}
@@ -109,10 +110,10 @@ plain_binding_told role members f g said h =
     (then_told (ReadsAbsent (codes "condition") None) (λ _ said. said ≡ Ok (plain_binding role members)) tt (plain_binding role members) (λ s e. e) (λ s e. e)))
     said h
 
-without_condition : (binding : Binding) → binding.condition ≡ None → binding ≡ plain_binding binding.role binding.members
+pub without_condition : (binding : Binding) → binding.condition ≡ None → binding ≡ plain_binding binding.role binding.members
 without_condition binding e = ap (λ (c : Option Condition). record binding { condition = c }) e
 
-pub binding_told : (binding : Binding) → IsKeptBinding binding → (said : Result Binding (List ℕ)) → ReadsBinding (binding_data binding) said → said ≡ Ok binding
+pub binding_told : (binding : Binding) → IsKept binding → (said : Result Binding (List ℕ)) → ReadsBinding (binding_data binding) said → said ≡ Ok binding
 binding_told binding kept said h =
     let e = without_condition binding kept.3 in
     plain_binding_told binding.role binding.members kept.0 kept.1 said (subst (λ (b : Binding). ReadsBinding (binding_data b) said) e h) ∙ ap Ok (sym e)
@@ -126,12 +127,12 @@ after_bindings d bindings =
 abbrev pub body_of_policy : AllowPolicy → PolicyBody
 body_of_policy policy = record { bindings = policy.bindings; set = policy.set }
 
-pub policy_told : (policy : AllowPolicy) → Each IsKeptBinding policy.bindings → (said : Result PolicyBody (List ℕ)) → ReadsPolicyBody (policy_data policy) said → said ≡ Ok (body_of_policy policy)
+pub policy_told : (policy : AllowPolicy) → Each IsKept policy.bindings → (said : Result PolicyBody (List ℕ)) → ReadsPolicyBody (policy_data policy) said → said ≡ Ok (body_of_policy policy)
 policy_told policy kept said h =
     let d = policy_data policy in
     then_told (ReadsRequired (ReadsList ReadsBinding) (codes "bindings") (Some (list_data binding_data policy.bindings))) (after_bindings d) policy.bindings (body_of_policy policy)
     (required_told (ReadsList ReadsBinding) (codes "bindings") (list_data binding_data policy.bindings) policy.bindings
-    (λ s r. items_told ReadsBinding binding_data IsKeptBinding binding_told policy.bindings kept 0 s r))
+    (λ s r. items_told ReadsBinding binding_data IsKept binding_told policy.bindings kept 0 s r))
     (then_told (ReadsRequired ReadsNumber (codes "set") (Some (number (unsigned policy.set))))
     (λ (set : ℕ) (said : Result PolicyBody (List ℕ)). said ≡ Ok (record { bindings = policy.bindings; set = set })) policy.set (body_of_policy policy)
     (required_told ReadsNumber (codes "set") (number (unsigned policy.set)) policy.set (number_told policy.set)) (λ s e. e))

@@ -3,4 +3,7 @@ pub mod Kept
 pub mod Printing
 pub mod Telling
 pub mod Like
-pub mod Eachs
+pub mod Formed
+pub mod Follow
+pub mod Same
+pub mod Longer

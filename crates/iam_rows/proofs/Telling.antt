@@ -4,7 +4,7 @@ use Rattle.serde_json.specs.Data.{Data, number, unsigned, string}
 use Rattle.serde_json.specs.View.{items_of}
 use Rattle.iam_names.specs.Reading.{IsToldByText}
 use Rattle.iam_json_data.specs.Reading.{Then, ReadsText, ReadsNumber, ReadsItems, ReadsMember, ReadsRequired}
-use Rattle.iam_rows.specs.Facts.{Each}
+use Rattle.std.specs.List.{AllByRecursion as Each}
 
 -- ---- members
 

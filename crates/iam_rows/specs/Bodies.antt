@@ -1,7 +1,6 @@
 -- What the bodies of rows are read as.
-use Rattle.std.specs.Prelude.{◌≡◌, ◌≢◌, ⊤, ℕ, List, [], Option, Some, Result, Ok, Err, codes}
+use Rattle.std.specs.Prelude.{◌≡◌, ⊤, ℕ, List, Result, Ok, codes}
 use Rattle.serde_json.specs.Data.{Data}
-use Rattle.serde_json.specs.Find.{as_str}
 use Rattle.iam_json_data.specs.Reading.{Then, ReadsText, ReadsNumber, ReadsList, ReadsRequired, present}
 use Rattle.iam_json_data.specs.Readers.{ReadsObject, ReadsBinding}
 use Rattle.iam_rows.specs.declared.body.AnyText.{AnyText}

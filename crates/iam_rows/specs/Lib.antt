@@ -1,4 +1,4 @@
 pub mod Bodies
-pub mod Facts
 pub mod Finding
+pub mod Kept
 pub mod Rows

@@ -1,11 +1,12 @@
 // The fact of a row.
-ghost use Rattle.std.specs.Prelude.{◌≡◌, ◌≢◌, ◌↔◌, ◌<◌, ◌^◌, [], codes, IsTrue, IfOk};
+ghost use Rattle.std.specs.Prelude.{◌≡◌, ◌↔◌, ◌<◌, ◌^◌, true, codes, All, IsTrue, IfOk};
 ghost use Rattle.iam_names.specs.Domain.{IsDomain, IsCustomer};
 ghost use Rattle.iam_names.specs.Node.{node_id_text};
 ghost use Rattle.iam_names.specs.Number.{IsNodeNumber};
 ghost use Rattle.iam_names.specs.Reading.{IsRead};
 ghost use Rattle.iam_json_data.specs.Printed.{printed};
-ghost use Rattle.iam_rows.specs.Facts.{Each, IsFact, IsKeptOrg, IsKeptPolicy};
+ghost use Rattle.iam_model.specs.Facts.{IsFact, IsOrgFact, IsPolicyFact};
+ghost use Rattle.iam_model.specs.Good.{has_members};
 ghost use Rattle.iam_rows.specs.Rows.{org_name, org_data, policy_data, IsRow};
 ghost use Rattle.iam_rows.specs.Finding.{Guesses, Finds, IsFactOf, ReadsRow, org_with, policy_with, organization_of};
 
@@ -76,8 +77,8 @@ fn org_with(number: u64, body: OrgBody) -> Org
 
 fn org_from(alloc: Global, number: u64, text: &str) -> Result<Org, RowStop>
     requires { IsNodeNumber number }
-    ensures { Guesses IsKeptOrg
-        (λ org. IsKeptOrg org × (org.number ≡ number) × (text.now ≡ printed (org_data org))) result }
+    ensures { Guesses IsOrgFact
+        (λ org. IsOrgFact org × (org.number ≡ number) × (text.now ≡ printed (org_data org))) result }
 {
     match read_row::<OrgBody>(alloc, text) {
         Ok(body) => {
@@ -90,11 +91,17 @@ fn org_from(alloc: Global, number: u64, text: &str) -> Result<Org, RowStop>
     }
 }
 
+fn has_members(binding: &Binding) -> bool
+    ensures { result ≡ has_members binding.now }
+{
+    !binding.members.is_empty()
+}
+
 fn all_have_members(bindings: &[Binding]) -> bool
-    ensures { IsTrue result ↔ Each (λ binding. binding.members ≢ []) bindings.now }
+    ensures { IsTrue result ↔ All (λ binding. has_members binding ≡ true) bindings.now }
 {
     for binding in bindings {
-        if binding.members.is_empty() {
+        if !has_members(binding) {
             return false;
         }
     }
@@ -117,7 +124,7 @@ fn policy_with(number: u64, body: PolicyBody) -> AllowPolicy
 
 fn policy_from(alloc: Global, number: u64, text: &str) -> Result<AllowPolicy, RowStop>
     requires { IsNodeNumber number }
-    ensures { Guesses IsKeptPolicy (λ policy. IsKeptPolicy policy × (policy.node.number ≡ number)
+    ensures { Guesses IsPolicyFact (λ policy. IsPolicyFact policy × (policy.node.number ≡ number)
         × (text.now ≡ printed (policy_data policy))) result }
 {
     match read_row::<PolicyBody>(alloc, text) {
@@ -132,8 +139,8 @@ fn policy_from(alloc: Global, number: u64, text: &str) -> Result<AllowPolicy, Ro
 }
 
 fn org_like(alloc: Global, row: &Row) -> Result<Org, RowStop>
-    ensures { Guesses IsKeptOrg
-        (λ org. IsKeptOrg org × IsRow (codes "org") (org_name org.number) (org_data org) row.now) result }
+    ensures { Guesses IsOrgFact
+        (λ org. IsOrgFact org × IsRow (codes "org") (org_name org.number) (org_data org) row.now) result }
 {
     match organization_of(alloc, row)? {
         Some(number) => org_from(alloc, number, row.body.as_str()),
@@ -142,8 +149,8 @@ fn org_like(alloc: Global, row: &Row) -> Result<Org, RowStop>
 }
 
 fn policy_like(alloc: Global, row: &Row) -> Result<AllowPolicy, RowStop>
-    ensures { Guesses IsKeptPolicy
-        (λ policy. IsKeptPolicy policy × IsRow (codes "allow") (node_id_text policy.node) (policy_data policy) row.now) result }
+    ensures { Guesses IsPolicyFact
+        (λ policy. IsPolicyFact policy × IsRow (codes "allow") (node_id_text policy.node) (policy_data policy) row.now) result }
 {
     match organization_of(alloc, row)? {
         Some(number) => policy_from(alloc, number, row.body.as_str()),

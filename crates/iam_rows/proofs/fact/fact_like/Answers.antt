@@ -1,5 +1,4 @@
-use Rattle.std.proofs.Common.{refl}
-use Rattle.iam_rows.proofs.Like.{org_fact, org_stopped, policy_fact, policy_stopped, other_part}
+use Rattle.iam_rows.proofs.Like.{org_fact, org_stopped}
 use Rattle.iam_rows.proofs.fact.fact_like.Goals as goal
 
 pub returns-in-Ok : goal.returns-in-Ok

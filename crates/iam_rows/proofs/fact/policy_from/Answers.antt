@@ -1,4 +1,3 @@
-use Rattle.std.proofs.Common.{arith}
 use Rattle.iam_rows.proofs.Back.{policy_refused, policy_guessed, policy_formed, policy_other}
 use Rattle.iam_rows.proofs.fact.policy_from.Goals as goal
 

@@ -1,0 +1,112 @@
+// The rows of an opening, byte for byte, and rows that keep nothing.
+use crate::{LoadStop, RowStop, fact_of, facts_of_rows, row_of, writes_of};
+use iam_outer::{Row, RowWrite};
+use iam_text::{List, OutOfMemory, Text};
+use iam_types::FactChange;
+use std::alloc::Global;
+use std::test::Fail;
+
+const NAME: &str = "organizations/1000";
+
+const ALLOW: &str =
+    "{\"bindings\":[{\"members\":[\"user:ada@example.com\"],\"role\":\"roles/resourcemanager.organizationAdmin\"}],\"set\":1}";
+
+const ORG: &str =
+    "{\"changes\":1,\"customer\":\"C01\",\"domain\":\"example.com\",\"next\":1,\"schema\":1}";
+
+// Parts and bodies: nothing in the organisation's body, an unknown part, an unknown member, a member that can't be
+// read, a binding without members, a space, another schema, and members in another order.
+const BAD: [(&str, &str); 8] = [
+    ("org", "{}"),
+    ("node", "{}"),
+    (
+        "org",
+        "{\"changes\":1,\"customer\":\"C01\",\"domain\":\"example.com\",\"label\":1,\"next\":1,\"schema\":1}",
+    ),
+    (
+        "allow",
+        "{\"bindings\":[{\"members\":[\"user:\"],\"role\":\"roles/viewer\"}],\"set\":1}",
+    ),
+    (
+        "allow",
+        "{\"bindings\":[{\"members\":[],\"role\":\"roles/viewer\"}],\"set\":1}",
+    ),
+    ("allow", "{\"bindings\":[], \"set\":1}"),
+    (
+        "org",
+        "{\"changes\":1,\"customer\":\"C01\",\"domain\":\"example.com\",\"next\":1,\"schema\":2}",
+    ),
+    (
+        "org",
+        "{\"customer\":\"C01\",\"changes\":1,\"domain\":\"example.com\",\"next\":1,\"schema\":1}",
+    ),
+];
+
+fn row(alloc: Global, part: &str, body: &str) -> Result<Row, OutOfMemory> {
+    Ok(Row {
+        part: Text::of(alloc, part)?,
+        name: Text::of(alloc, NAME)?,
+        body: Text::of(alloc, body)?,
+    })
+}
+
+// The row of the fact that a row keeps.
+fn again(alloc: Global, kept: &Row) -> Result<Row, RowStop> {
+    let fact = fact_of(alloc, kept)?;
+    Ok(row_of(alloc, &fact)?)
+}
+
+// The organisation is put, and the policy is cut.
+fn writes(alloc: Global) -> Result<List<RowWrite>, RowStop> {
+    let put = fact_of(alloc, &row(alloc, "org", ORG)?)?;
+    let cut = fact_of(alloc, &row(alloc, "allow", ALLOW)?)?;
+    let changes = [FactChange::Put(put), FactChange::Cut(cut)];
+    Ok(writes_of(alloc, changes.as_slice())?)
+}
+
+#[test]
+fn rows_of_an_opening_are_kept(rt: HostRuntime) -> Result<(), Fail> {
+    let alloc = rt.alloc();
+    for (part, body) in [("allow", ALLOW), ("org", ORG)] {
+        let kept = row(alloc, part, body)?;
+        assert!(rt; again(alloc, &kept)? == kept, "{body}");
+    }
+    Ok(())
+}
+
+#[test]
+fn bad_rows_keep_nothing(rt: HostRuntime) -> Result<(), Fail> {
+    let alloc = rt.alloc();
+    for (part, body) in BAD {
+        let bad = row(alloc, part, body)?;
+        assert!(rt; again(alloc, &bad) == Err(RowStop::BadRow), "{body}");
+    }
+    Ok(())
+}
+
+fn load(alloc: Global, last: &str) -> Result<usize, LoadStop> {
+    let mut rows = List::new(alloc);
+    rows.push(row(alloc, "allow", ALLOW)?)?;
+    rows.push(row(alloc, "org", last)?)?;
+    Ok(facts_of_rows(alloc, rows.as_slice())?.len())
+}
+
+#[test]
+fn the_first_bad_row_is_named(rt: HostRuntime) {
+    let alloc = rt.alloc();
+    assert!(rt; load(alloc, ORG) == Ok(2));
+    assert!(rt; load(alloc, "{}") == Err(LoadStop::BadRow { index: 1 }));
+}
+
+#[test]
+fn changes_are_written(rt: HostRuntime) -> Result<(), Fail> {
+    let alloc = rt.alloc();
+    let mut wanted = List::new(alloc);
+    wanted.push(RowWrite::Put(row(alloc, "org", ORG)?))?;
+    wanted.push(RowWrite::Cut {
+        part: Text::of(alloc, "allow")?,
+        name: Text::of(alloc, NAME)?,
+    })?;
+    assert!(rt; writes(alloc)? == wanted);
+    Ok(())
+}
