@@ -1,11 +1,9 @@
 -- The permissions of the readings of policies are in the catalogue.
 use Rattle.std.specs.Prelude.{IsTrue}
 use Rattle.std.proofs.Common.{refl}
-use Rattle.iam_names.specs.Permission.{IsPermission}
 use Rattle.iam_names.specs.declared.node.NodeKind.{NodeKind}
 use Rattle.iam_names.specs.declared.node.NodeKind.TheVariants.{Organization, Folder, Project}
 use Rattle.iam_model.specs.Catalogue.{is_permission, lines, permits}
-use Rattle.iam_tables.proofs.Named.{named_shown}
 use Rattle.iam_answer.specs.Asking.{get_permission}
 
 pub get_is_known : (kind : NodeKind) → IsTrue (is_permission (get_permission kind))
@@ -13,8 +11,3 @@ unfolding lines permits
 get_is_known Organization = refl
 get_is_known Folder = refl
 get_is_known Project = refl
-
-pub get_is_named : (kind : NodeKind) → IsPermission (get_permission kind)
-get_is_named Organization = named_shown (get_permission Organization) refl
-get_is_named Folder = named_shown (get_permission Folder) refl
-get_is_named Project = named_shown (get_permission Project) refl

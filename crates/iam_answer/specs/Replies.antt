@@ -6,12 +6,16 @@ use Rattle.iam_types.specs.declared.answer.Answer.TheVariants.{Refused}
 use Rattle.iam_json.specs.Answers.{answer_text}
 use Rattle.iam_json.specs.Refusals.{line_of, refusal_line, error_text}
 use Rattle.iam_json.specs.declared.details.Details.{Details}
-use Rattle.iam_json.specs.declared.details.Details.TheVariants.{OutOfMemory}
+use Rattle.iam_json.specs.declared.details.Details.TheVariants.{KeeperFault, OutOfMemory}
 use Rattle.iam_wire.specs.Reply.{bytes_of}
 
 -- a refusal that no state gives shows neither revision nor moment
 unfoldable pub plain_reply : Details → List ℕ
 plain_reply details = bytes_of (record { code = (line_of details).code; number = None; moment = None; body = error_text details })
+
+-- a write for which the keeper failed shows the moment alone
+unfoldable pub keeper_reply : Moment → List ℕ
+keeper_reply moment = bytes_of (record { code = (line_of KeeperFault).code; number = None; moment = Some moment; body = error_text KeeperFault })
 
 abbrev pub answer_code : Answer → ℕ
 answer_code (Refused refusal) = (refusal_line refusal).code

@@ -1,15 +1,15 @@
 // The reading of a node's policy.
 ghost use Rattle.std.specs.Prelude.{◌≡◌, IfOk, IsTrue};
-ghost use Rattle.iam_model.specs.AdmitAllow.{is_version as version_is_one, unless_allowed};
 ghost use Rattle.iam_model.specs.Nodes.{exists};
 ghost use Rattle.iam_answer.specs.Answer.{may_not_get, policy_answer, policy_shown};
 ghost use Rattle.iam_answer.specs.Asking.{get_permission};
 
 use crate::queries::decision_of;
 use iam_judge::Index;
-use iam_names::{Caller, NodeId, NodeKind, PermissionName, copy_permission};
+use iam_names::{Caller, NodeId, NodeKind};
 use iam_tables::{
-    Answer, Binding, Decision, Refusal, Tables, copy_binding, permission_named, policy_of,
+    Answer, Binding, Refusal, Tables, copy_binding, is_version, permission_named, policy_of,
+    unless_allowed,
 };
 use iam_text::{List, Moment, OutOfMemory};
 use std::alloc::Global;
@@ -24,20 +24,8 @@ fn get_text(kind: NodeKind) -> &'static str
     }
 }
 
-// What a decision refuses.
-fn unless_allowed(permission: PermissionName, decision: Decision) -> Option<Refusal>
-    ensures { result ≡ unless_allowed permission decision }
-{
-    match decision {
-        Decision::Allowed { .. } => None,
-        Decision::DeniedBoundary { binding } => Some(Refusal::DeniedBoundary { binding }),
-        Decision::DeniedRule { policy, rule } => Some(Refusal::DeniedRule { policy, rule }),
-        Decision::NotGranted => Some(Refusal::NotGranted { permission }),
-    }
-}
-
 // The refusal of a caller who may not read the policy.
-#[tactic(auto, using(crate::proofs::Known::get_is_known, crate::proofs::Known::get_is_named))]
+#[tactic(auto, using(crate::proofs::Known::get_is_known))]
 fn may_not_get(
     alloc: Global,
     index: &Index,
@@ -51,12 +39,6 @@ fn may_not_get(
     let permission = permission_named(alloc, get_text(node.kind))?;
     let decision = decision_of(alloc, index, node, caller, moment, &permission)?;
     Ok(unless_allowed(permission, decision))
-}
-
-fn is_version(version: u64) -> bool
-    ensures { result ≡ version_is_one version }
-{
-    version == 0 || version == 1 || version == 3
 }
 
 // Copies of the bindings.

@@ -2,34 +2,13 @@
 ghost use Rattle.std.specs.Prelude.{◌≡◌, IfOk, IsTrue};
 ghost use Rattle.iam_model.specs.Catalogue.{is_permission};
 ghost use Rattle.iam_model.specs.Nodes.{exists};
-ghost use Rattle.iam_model.specs.ResourceFacts.{facts_of_node, kind_text};
 ghost use Rattle.iam_answer.specs.Asking.{query_of as the_query, decision_of as the_decision, allows as allows_it};
 
 use iam_judge::Index;
-use iam_names::{Caller, NodeId, NodeKind, PermissionName, copy_caller, copy_permission};
-use iam_tables::{Decision, Query, ResourceFacts};
-use iam_text::{List, Moment, OutOfMemory, Text};
+use iam_names::{Caller, NodeId, PermissionName, copy_caller, copy_permission};
+use iam_tables::{Decision, Query, resource_facts_of};
+use iam_text::{List, Moment, OutOfMemory};
 use std::alloc::Global;
-
-fn kind_of(kind: NodeKind) -> &'static str
-    ensures { result.now ≡ kind_text kind }
-{
-    match kind {
-        NodeKind::Organization => "cloudresourcemanager.googleapis.com/Organization",
-        NodeKind::Folder => "cloudresourcemanager.googleapis.com/Folder",
-        NodeKind::Project => "cloudresourcemanager.googleapis.com/Project",
-    }
-}
-
-fn facts_of(alloc: Global, node: NodeId) -> Result<ResourceFacts, OutOfMemory>
-    ensures { IfOk result (λ facts. facts ≡ facts_of_node node) }
-{
-    Ok(ResourceFacts {
-        kind: Text::of(alloc, kind_of(node.kind))?,
-        service: Text::of(alloc, "cloudresourcemanager.googleapis.com")?,
-        name: node.text(alloc)?,
-    })
-}
 
 fn query_of(
     alloc: Global,
@@ -44,7 +23,7 @@ fn query_of(
         caller: copy_caller(caller)?,
         node,
         permission: copy_permission(permission)?,
-        resource: facts_of(alloc, node)?,
+        resource: resource_facts_of(alloc, node)?,
         moment,
         modified: List::new(alloc),
     })

@@ -1,9 +1,9 @@
 // The bytes of replies.
 ghost use Rattle.std.specs.Prelude.{◌≡◌, IfOk};
 ghost use Rattle.iam_json.specs.Refusals.{line_of};
-ghost use Rattle.iam_answer.specs.Replies.{answer_code, no_memory_reply as the_fixed_reply, plain_reply as plain_bytes, served_reply as served_bytes};
+ghost use Rattle.iam_answer.specs.Replies.{answer_code, keeper_reply as keeper_bytes, no_memory_reply as the_fixed_reply, plain_reply as plain_bytes, served_reply as served_bytes};
 
-use iam_json::{ErrorReply, answer_body, code_of, error_body, refusal_code};
+use iam_json::{Details, ErrorReply, answer_body, code_of, error_body, refusal_code};
 use iam_tables::Answer;
 use iam_text::{List, Moment, OutOfMemory};
 use iam_wire::{Reply, reply_bytes};
@@ -23,6 +23,21 @@ pub fn plain_reply(alloc: Global, error: &ErrorReply) -> Result<List<u8>, OutOfM
         number: None,
         moment: None,
         body: error_body(alloc, error)?,
+    };
+    reply_bytes(alloc, &reply)
+}
+
+/// The reply to a write for which the keeper failed: it shows the moment alone.
+#[tactic(auto, unfolding(crate::specs::Replies::keeper_reply))]
+pub fn keeper_reply(alloc: Global, moment: Moment) -> Result<List<u8>, OutOfMemory>
+    ensures { IfOk result (λ bytes. bytes ≡ keeper_bytes moment) }
+{
+    let error = ErrorReply::of(Details::KeeperFault);
+    let reply = Reply {
+        code: code_of(&error),
+        number: None,
+        moment: Some(moment),
+        body: error_body(alloc, &error)?,
     };
     reply_bytes(alloc, &reply)
 }
