@@ -1,0 +1,5 @@
+use Rattle.iam_keeping.proofs.Left.{opened_once}
+use Rattle.iam_keeping.proofs.laws.rows_open_once.Goals as goal
+
+pub returns : goal.returns
+returns c = opened_once c.rows_tell_tables.ensures

@@ -1,0 +1,161 @@
+// The tables of a keeper's rows.
+ghost use Rattle.std.specs.Prelude.{◌≡◌, ◌≤◌, [], map, All, IfOk, IfErr, IfSome, IsErrOf, OnErr, OnOk};
+ghost use Rattle.std.specs.declared.option.Option.{Option as Maybe};
+ghost use Rattle.iam_text.specs.Put.{IsInOrder};
+ghost use Rattle.iam_types.specs.declared.tables.Opening.{Opening as AnOpening};
+ghost use Rattle.iam_model.specs.Facts.{IsFact, facts_of as the_facts};
+ghost use Rattle.iam_model.specs.Good.{Good};
+ghost use Rattle.iam_model.specs.Opening.{IsOpening, opening_tables as the_opening};
+ghost use Rattle.iam_outer.specs.Causes.{Rose};
+ghost use Rattle.iam_outer.specs.Rows.{row_order, Written};
+ghost use Rattle.iam_types.specs.declared.fact.FactChange.{FactChange};
+ghost use Rattle.iam_keeping.specs.declared.stop.LoadFault.{LoadFault as AFault};
+ghost use Rattle.iam_keeping.specs.Opened.{IsOpenedFrom, IsLeft, IsLoadFault};
+ghost use Rattle.iam_rows.specs.Kept.{AreFactsOf, AreRows, AreWrites, KeepsTables};
+
+use crate::stop::{LoadFault, OpenStop};
+use iam_model::{
+    facts_are_formed, facts_are_in_order, facts_are_put, given_tables_are_good, openings_are_good,
+    ordered_facts_are_placed,
+};
+use iam_outer::{Keeper, Row, RowWrite};
+use iam_rows::{
+    LoadStop, facts_of_rows, facts_stand_as_rows, puts_of, read_facts_are_kept, rows_follow_changes,
+};
+use iam_tables::{Fact, Opening, Tables, TablesStop, facts_of, from_facts, opening_tables};
+use iam_text::{List, OutOfMemory};
+use std::alloc::Global;
+
+// The tables that an organisation starts from, and the writes that keep them.
+fn first_tables(alloc: Global, opening: &Opening) -> Result<(Tables, List<RowWrite>), OutOfMemory>
+    requires { IsOpening opening.now }
+    ensures tables { IfOk result (λ made. made.0 ≡ the_opening opening.now) }
+    ensures writes { IfOk result (λ made. AreWrites (map (λ fact. FactChange.Put fact) (the_facts (the_opening opening.now))) made.1) }
+{
+    openings_are_good();
+    facts_are_formed();
+    let tables = opening_tables(alloc, opening)?;
+    let facts = facts_of(alloc, &tables)?;
+    let writes = puts_of(alloc, facts.as_slice())?;
+    Ok((tables, writes))
+}
+
+fn commit<P: Keeper>(keeper: &mut P, writes: &[RowWrite]) -> Result<(), OpenStop>
+    ensures ok { OnOk result (Written (P.rows keeper.old) (P.rows keeper.new) writes.now) }
+    ensures err { OnErr result (P.rows keeper.new ≡ P.rows keeper.old) }
+    ensures fault { (fault : AFault) → IsErrOf result (OpenStop.Rows fault) → ⊥ }
+    ensures later { P.keeper_faults keeper.old ≤ P.keeper_faults keeper.new }
+    ensures cause { IsErrOf result OpenStop.Keeper → Rose (P.keeper_faults keeper.old) (P.keeper_faults keeper.new) }
+    ensures same { P.same keeper.old keeper.new }
+{
+    keeper.commit(writes)?;
+    Ok(())
+}
+
+// Keeps what an organisation starts from, where the keeper has no rows. All is made before the commit, so that no
+// memory can be refused behind it.
+fn begin<P: Keeper>(alloc: Global, opening: &Opening, keeper: &mut P) -> Result<Tables, OpenStop>
+    requires formed { IsOpening opening.now }
+    requires empty { IfSome (P.rows keeper.old) (λ rows. rows ≡ []) }
+    ensures good { IfOk result Good }
+    ensures opened { IfOk result (λ tables. tables ≡ the_opening opening.now) }
+    ensures kept { IfOk result (KeepsTables (P.rows keeper.new)) }
+    ensures left { OnOk result (IsLeft (Maybe.Some opening.now) (P.rows keeper.old) (P.rows keeper.new)) }
+    ensures err { OnErr result (P.rows keeper.new ≡ P.rows keeper.old) }
+    ensures fault { (fault : AFault) → IsErrOf result (OpenStop.Rows fault) → ⊥ }
+    ensures later { P.keeper_faults keeper.old ≤ P.keeper_faults keeper.new }
+    ensures cause { IsErrOf result OpenStop.Keeper → Rose (P.keeper_faults keeper.old) (P.keeper_faults keeper.new) }
+    ensures same { P.same keeper.old keeper.new }
+{
+    openings_are_good();
+    facts_are_in_order();
+    facts_are_put();
+    rows_follow_changes();
+    let (tables, writes) = first_tables(alloc, opening)?;
+    match commit(keeper, writes.as_slice()) {
+        Ok(()) => Ok(tables),
+        Err(stop) => Err(stop),
+    }
+}
+
+fn begin_with<P: Keeper>(
+    alloc: Global,
+    opening: Option<Opening>,
+    keeper: &mut P,
+) -> Result<Tables, OpenStop>
+    requires formed { IfSome opening IsOpening }
+    requires empty { IfSome (P.rows keeper.old) (λ rows. rows ≡ []) }
+    ensures good { IfOk result Good }
+    ensures opened { IfOk result (IsOpenedFrom opening []) }
+    ensures kept { IfOk result (KeepsTables (P.rows keeper.new)) }
+    ensures left { OnOk result (IsLeft opening (P.rows keeper.old) (P.rows keeper.new)) }
+    ensures err { OnErr result (P.rows keeper.new ≡ P.rows keeper.old) }
+    ensures fault { (fault : AFault) → IsErrOf result (OpenStop.Rows fault) → IsLoadFault opening [] fault }
+    ensures later { P.keeper_faults keeper.old ≤ P.keeper_faults keeper.new }
+    ensures cause { IsErrOf result OpenStop.Keeper → Rose (P.keeper_faults keeper.old) (P.keeper_faults keeper.new) }
+    ensures same { P.same keeper.old keeper.new }
+{
+    match opening {
+        Some(opening) => begin(alloc, &opening, keeper),
+        None => Err(OpenStop::Rows(LoadFault::Empty)),
+    }
+}
+
+fn tables_of_facts(alloc: Global, rows: &[Row], facts: List<Fact>) -> Result<Tables, OpenStop>
+    requires formed { All IsFact facts }
+    requires read { AreFactsOf rows.now facts }
+    ensures good { IfOk result Good }
+    ensures opened { IfOk result (λ tables. IsInOrder row_order rows.now → AreRows (the_facts tables) rows.now) }
+    ensures fault { (opening : Maybe AnOpening) (fault : AFault) → IsErrOf result (OpenStop.Rows fault) → IsLoadFault opening rows.now fault }
+    ensures keeper { IsErrOf result OpenStop.Keeper → ⊥ }
+{
+    facts_stand_as_rows();
+    ordered_facts_are_placed();
+    given_tables_are_good();
+    read_facts_are_kept();
+    match from_facts(alloc, facts) {
+        Ok(tables) => Ok(tables),
+        Err(TablesStop::Inconsistent { rule }) => {
+            Err(OpenStop::Rows(LoadFault::Inconsistent { rule }))
+        }
+        Err(TablesStop::OutOfMemory) => Err(OpenStop::OutOfMemory),
+    }
+}
+
+fn tables_of_rows(alloc: Global, rows: &[Row]) -> Result<Tables, OpenStop>
+    ensures good { IfOk result Good }
+    ensures opened { IfOk result (λ tables. IsInOrder row_order rows.now → AreRows (the_facts tables) rows.now) }
+    ensures fault { (opening : Maybe AnOpening) (fault : AFault) → IsErrOf result (OpenStop.Rows fault) → IsLoadFault opening rows.now fault }
+    ensures keeper { IsErrOf result OpenStop.Keeper → ⊥ }
+{
+    match facts_of_rows(alloc, rows) {
+        Ok(facts) => tables_of_facts(alloc, rows, facts),
+        Err(LoadStop::BadRow { index }) => Err(OpenStop::Rows(LoadFault::BadRow { index })),
+        Err(LoadStop::OutOfMemory) => Err(OpenStop::OutOfMemory),
+    }
+}
+
+/// Opens the tables of the keeper's rows. Where there are none, the opening's tables are kept and opened; where rows
+/// are there, an opening is passed over.
+pub fn open<P: Keeper>(
+    alloc: Global,
+    opening: Option<Opening>,
+    keeper: &mut P,
+) -> Result<Tables, OpenStop>
+    requires { IfSome opening IsOpening }
+    ensures good { IfOk result Good }
+    ensures opened { IfOk result (λ tables. IfSome (P.rows keeper.old) (λ rows. IsOpenedFrom opening rows tables)) }
+    ensures kept { IfOk result (KeepsTables (P.rows keeper.new)) }
+    ensures left { OnOk result (IsLeft opening (P.rows keeper.old) (P.rows keeper.new)) }
+    ensures err { OnErr result (P.rows keeper.new ≡ P.rows keeper.old) }
+    ensures fault { (fault : AFault) → IsErrOf result (OpenStop.Rows fault) → IfSome (P.rows keeper.old) (λ rows. IsLoadFault opening rows fault) }
+    ensures later { P.keeper_faults keeper.old ≤ P.keeper_faults keeper.new }
+    ensures cause { IsErrOf result OpenStop.Keeper → Rose (P.keeper_faults keeper.old) (P.keeper_faults keeper.new) }
+    ensures same { P.same keeper.old keeper.new }
+{
+    let rows = keeper.load()?;
+    if rows.is_empty() {
+        return begin_with(alloc, opening, keeper);
+    }
+    tables_of_rows(alloc, rows.as_slice())
+}
