@@ -26,13 +26,13 @@ use Rattle.iam_routes.specs.declared.given.Asked.TheVariants.{Refused, Given}
 use Rattle.iam_answer.specs.Answer.{answer_of}
 use Rattle.iam_answer.specs.Replies.{served_reply, no_memory_reply}
 use Rattle.iam_office.specs.Office.{Number, first, JudgedAlone, StoredTold, WriteTold, gained, verdict, accepts, accepted_by}
-use Rattle.iam_office.specs.Says.{Says, SaysTo, SaysPlainly, SaysNoKeeper, IsShown, IsStopped, Exact, ExactTo, Answers, AnswersTo}
+use Rattle.iam_office.specs.Says.{Says, SaysTo, SaysPlainly, IsShown, IsStopped, Exact, ExactTo, Answers, AnswersTo}
 use Rattle.iam_office.specs.Talks.{IsCounted, IsCountedTo, Rise, keeper_faults_of, moments_of}
 use Rattle.iam_office.specs.declared.office.WriteStop.{WriteStop}
 use Rattle.iam_office.specs.declared.office.WriteStop.TheVariants.{KeeperFault as WriteFailed, OutOfMemory as WriteMemory}
 use Rattle.iam_office.specs.declared.office.Numbered.{Numbered}
 use Rattle.iam_office.proofs.Leading.{number_after}
-use Rattle.iam_office.proofs.Standing.{written_accepts}
+use Rattle.iam_office.proofs.Written.{written_accepts}
 
 -- the first entries up to the number of the whole history
 pub first_whole : (t : Tables) (h : List Entry) (n : ℕ) → n ≡ Number t h → first t n h ≡ h

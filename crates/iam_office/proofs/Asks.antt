@@ -1,6 +1,6 @@
 -- What a message asks to be written is well formed.
-use Rattle.std.proofs.Common.{◌≡◌, ℕ, suc, Bool, true, false, List, [], ◌∷◌, All, subst, sym, refl, arith, ap}
-use Rattle.std.specs.Prelude.{Option, Some, None, unwrap_or, Result, Ok, Err, codes}
+use Rattle.std.proofs.Common.{◌≡◌, ℕ, suc, Bool, true, false, List, [], ◌∷◌, All, subst, sym, refl, arith}
+use Rattle.std.specs.Prelude.{Option, Some, None, unwrap_or, Result, Ok, codes}
 use Rattle.std.specs.Bool.{MatchBool}
 use Rattle.std.proofs.lemmas.List.Elements.{All-cons, All-nil}
 use Rattle.serde_json.specs.Data.{Data, Items, no_items, item}
@@ -10,7 +10,6 @@ use Rattle.iam_names.specs.Member.{IsMember, member_text}
 use Rattle.iam_names.specs.Node.{IsNodeName}
 use Rattle.iam_names.specs.Role.{IsRoleName, role_text}
 use Rattle.iam_names.specs.declared.caller.Caller.{Caller}
-use Rattle.iam_names.specs.declared.member.Member.{Member}
 use Rattle.iam_names.specs.declared.node.NodeName.{NodeName}
 use Rattle.iam_types.specs.declared.allow.Binding.{Binding}
 use Rattle.iam_types.specs.declared.ask.Ask.{Ask}

@@ -5,7 +5,6 @@ use Rattle.iam_text.specs.declared.moment.Moment.{Moment}
 use Rattle.iam_names.specs.declared.caller.Caller.{Caller}
 use Rattle.iam_outer.specs.declared.talk.Step.{Step}
 use Rattle.iam_outer.specs.declared.talk.Step.TheVariants.{Plain, Served, NoClock, NoKeeper, NoMemory}
-use Rattle.iam_types.specs.declared.answer.Answer.{Answer}
 use Rattle.iam_types.specs.declared.command.Entry.{Entry}
 use Rattle.iam_types.specs.declared.tables.Tables.{Tables}
 use Rattle.iam_model.specs.Admit.{admission}
@@ -14,8 +13,7 @@ use Rattle.iam_json.specs.declared.call.Call.{Call}
 use Rattle.iam_json.specs.declared.call.Call.TheVariants.{Write, Read}
 use Rattle.iam_json.specs.declared.reply.ErrorReply.{ErrorReply}
 use Rattle.iam_wire.specs.declared.message.Message.{Message}
-use Rattle.iam_routes.proofs.Askings.{one_asking}
-use Rattle.iam_routes.specs.Asked.{IsAsked}
+use Rattle.iam_routes.specs.Asked.{IsAsked, AtMostOneAsking}
 use Rattle.iam_routes.specs.declared.given.Asked.TheVariants.{Refused, Given}
 use Rattle.iam_answer.specs.Answer.{answer_of}
 use Rattle.iam_answer.specs.Replies.{plain_reply, served_reply}
@@ -34,8 +32,8 @@ same_error : (a b : ErrorReply) → Refused a ≡ Refused b → a ≡ b
 same_error a b is = cc is
 
 -- what holds of the one asking of a message holds of the other
-same_asking : (P : Caller → Call → Type 0) (m : Message) (a b : Caller) (c d : Call) → IsAsked m (Given a c) → IsAsked m (Given b d) → P b d → P a c
-same_asking P m a b c d first other p =
+same_asking : AtMostOneAsking → (P : Caller → Call → Type 0) (m : Message) (a b : Caller) (c d : Call) → IsAsked m (Given a c) → IsAsked m (Given b d) → P b d → P a c
+same_asking one_asking P m a b c d first other p =
     let one = one_asking m (Given a c) (Given b d) first other in
     subst (λ caller. P caller c) (sym (same_caller a b c d one)) (subst (λ call. P b call) (sym (same_call a b c d one)) p)
 
@@ -56,21 +54,21 @@ to_same t h least caller call (NoMemory None m) a b free p q = p ∙ sym q
 to_same t h least caller call (NoMemory (Some n) m) a b free p q = p.1 ∙ sym q.1
 to_same t h least caller call (Served n m) a b free p q = absurd free
 
-given_same : (t : Tables) (h : List Entry) (least : ℕ) (m : Message) (step : Step) (a b : List ℕ) → Stateless step → SaysGiven t h least m step a → SaysGiven t h least m step b → a ≡ b
-given_same t h least m step a b free p q =
-    to_same t h least p.0 p.1 step a b free p.3 (same_asking (λ caller call. SaysTo t h least caller call step b) m p.0 q.0 p.1 q.1 p.2 q.2 q.3)
+given_same : AtMostOneAsking → (t : Tables) (h : List Entry) (least : ℕ) (m : Message) (step : Step) (a b : List ℕ) → Stateless step → SaysGiven t h least m step a → SaysGiven t h least m step b → a ≡ b
+given_same one_asking t h least m step a b free p q =
+    to_same t h least p.0 p.1 step a b free p.3 (same_asking one_asking (λ caller call. SaysTo t h least caller call step b) m p.0 q.0 p.1 q.1 p.2 q.2 q.3)
 
-says_same : (t : Tables) (h : List Entry) (least : ℕ) (m : Message) (step : Step) (a b : List ℕ) → Stateless step → Says t h least m step a → Says t h least m step b → a ≡ b
+says_same : AtMostOneAsking → (t : Tables) (h : List Entry) (least : ℕ) (m : Message) (step : Step) (a b : List ℕ) → Stateless step → Says t h least m step a → Says t h least m step b → a ≡ b
 unfolding Says
-says_same t h least m Plain a b free p q =
+says_same one_asking t h least m Plain a b free p q =
     let errors = same_error p.0 q.0 (one_asking m (Refused p.0) (Refused q.0) p.1 q.1) in
     p.2 ∙ ap (λ (e : ErrorReply). plain_reply e.details) errors ∙ sym q.2
-says_same t h least m NoClock a b free p q = given_same t h least m NoClock a b free p q
-says_same t h least m (NoKeeper x) a b free p q = given_same t h least m (NoKeeper x) a b free p q
-says_same t h least m (NoMemory None None) a b free p q = p ∙ sym q
-says_same t h least m (NoMemory None (Some x)) a b free p q = given_same t h least m (NoMemory None (Some x)) a b free p q
-says_same t h least m (NoMemory (Some n) x) a b free p q = given_same t h least m (NoMemory (Some n) x) a b free p q
-says_same t h least m (Served n x) a b free p q = absurd free
+says_same one_asking t h least m NoClock a b free p q = given_same one_asking t h least m NoClock a b free p q
+says_same one_asking t h least m (NoKeeper x) a b free p q = given_same one_asking t h least m (NoKeeper x) a b free p q
+says_same one_asking t h least m (NoMemory None None) a b free p q = p ∙ sym q
+says_same one_asking t h least m (NoMemory None (Some x)) a b free p q = given_same one_asking t h least m (NoMemory None (Some x)) a b free p q
+says_same one_asking t h least m (NoMemory (Some n) x) a b free p q = given_same one_asking t h least m (NoMemory (Some n) x) a b free p q
+says_same one_asking t h least m (Served n x) a b free p q = absurd free
 
 -- ---- what the history gains
 
@@ -92,42 +90,42 @@ stored_same t h caller (Write command) n None a b x y p q = absurd p
 stored_same t h caller (Write command) n (Some m) a b x y p q = p.0 ∙ sym q.0
 
 -- of the caller and the call that the message gives
-exactly : (t : Tables) (h : List Entry) (m : Message) (step : Step) (b : List ℕ) (y : List Entry) (caller : Caller) (call : Call) → IsAsked m (Given caller call) → ExactGiven t h m step b y → ExactTo t h caller call step b y
-exactly t h m step b y caller call asked q = same_asking (λ caller call. ExactTo t h caller call step b y) m caller q.0 call q.1 asked q.2 q.3
+exactly : AtMostOneAsking → (t : Tables) (h : List Entry) (m : Message) (step : Step) (b : List ℕ) (y : List Entry) (caller : Caller) (call : Call) → IsAsked m (Given caller call) → ExactGiven t h m step b y → ExactTo t h caller call step b y
+exactly one_asking t h m step b y caller call asked q = same_asking one_asking (λ caller call. ExactTo t h caller call step b y) m caller q.0 call q.1 asked q.2 q.3
 
 -- the step, the messages and the tables give what is gained and said
-one_way : (t : Tables) (h : List Entry) (least : ℕ) (m : Message) (step : Step) (a b : List ℕ) (x y : List Entry) → Exact t h m step a x → Exact t h m step b y → Says t (h ++ x) least m step a → Says t (h ++ y) least m step b → (a ≡ b) × (x ≡ y)
+one_way : AtMostOneAsking → (t : Tables) (h : List Entry) (least : ℕ) (m : Message) (step : Step) (a b : List ℕ) (x y : List Entry) → Exact t h m step a x → Exact t h m step b y → Says t (h ++ x) least m step a → Says t (h ++ y) least m step b → (a ≡ b) × (x ≡ y)
 unfolding Exact
-one_way t h least m (Served n moment) a b x y p q first other = served_same t h p.0 p.1 n moment a b x y p.3 (exactly t h m (Served n moment) b y p.0 p.1 p.2 q)
-one_way t h least m (NoMemory (Some n) moment) a b x y p q first other =
-    let gains : x ≡ y = stored_same t h p.0 p.1 n moment a b x y p.3 (exactly t h m (NoMemory (Some n) moment) b y p.0 p.1 p.2 q) in
-    (says_same t (h ++ x) least m (NoMemory (Some n) moment) a b tt first (subst (λ z. Says t (h ++ z) least m (NoMemory (Some n) moment) b) (sym gains) other), gains)
-one_way t h least m (NoMemory None moment) a b x y p q first other =
+one_way one_asking t h least m (Served n moment) a b x y p q first other = served_same t h p.0 p.1 n moment a b x y p.3 (exactly one_asking t h m (Served n moment) b y p.0 p.1 p.2 q)
+one_way one_asking t h least m (NoMemory (Some n) moment) a b x y p q first other =
+    let gains : x ≡ y = stored_same t h p.0 p.1 n moment a b x y p.3 (exactly one_asking t h m (NoMemory (Some n) moment) b y p.0 p.1 p.2 q) in
+    (says_same one_asking t (h ++ x) least m (NoMemory (Some n) moment) a b tt first (subst (λ z. Says t (h ++ z) least m (NoMemory (Some n) moment) b) (sym gains) other), gains)
+one_way one_asking t h least m (NoMemory None moment) a b x y p q first other =
     let gains : x ≡ y = p ∙ sym q in
-    (says_same t (h ++ x) least m (NoMemory None moment) a b tt first (subst (λ z. Says t (h ++ z) least m (NoMemory None moment) b) (sym gains) other), gains)
-one_way t h least m Plain a b x y p q first other =
+    (says_same one_asking t (h ++ x) least m (NoMemory None moment) a b tt first (subst (λ z. Says t (h ++ z) least m (NoMemory None moment) b) (sym gains) other), gains)
+one_way one_asking t h least m Plain a b x y p q first other =
     let gains : x ≡ y = p ∙ sym q in
-    (says_same t (h ++ x) least m Plain a b tt first (subst (λ z. Says t (h ++ z) least m Plain b) (sym gains) other), gains)
-one_way t h least m NoClock a b x y p q first other =
+    (says_same one_asking t (h ++ x) least m Plain a b tt first (subst (λ z. Says t (h ++ z) least m Plain b) (sym gains) other), gains)
+one_way one_asking t h least m NoClock a b x y p q first other =
     let gains : x ≡ y = p ∙ sym q in
-    (says_same t (h ++ x) least m NoClock a b tt first (subst (λ z. Says t (h ++ z) least m NoClock b) (sym gains) other), gains)
-one_way t h least m (NoKeeper moment) a b x y p q first other =
+    (says_same one_asking t (h ++ x) least m NoClock a b tt first (subst (λ z. Says t (h ++ z) least m NoClock b) (sym gains) other), gains)
+one_way one_asking t h least m (NoKeeper moment) a b x y p q first other =
     let gains : x ≡ y = p ∙ sym q in
-    (says_same t (h ++ x) least m (NoKeeper moment) a b tt first (subst (λ z. Says t (h ++ z) least m (NoKeeper moment) b) (sym gains) other), gains)
+    (says_same one_asking t (h ++ x) least m (NoKeeper moment) a b tt first (subst (λ z. Says t (h ++ z) least m (NoKeeper moment) b) (sym gains) other), gains)
 
 -- ---- all of them
 
-pub follows : (t : Tables) (h : List Entry) (ms : List Message) (ss : List Step) (rs os : List (List ℕ)) (x y : List Entry) → InTurn t h ms ss rs x → InTurn t h ms ss os y → (rs ≡ os) × (x ≡ y)
+pub follows : AtMostOneAsking → (t : Tables) (h : List Entry) (ms : List Message) (ss : List Step) (rs os : List (List ℕ)) (x y : List Entry) → InTurn t h ms ss rs x → InTurn t h ms ss os y → (rs ≡ os) × (x ≡ y)
 unfolding InTurn
-follows t h [] [] [] [] x y p q = (refl, p ∙ sym q)
-follows t h [] [] [] (b ∷ os) x y p q = absurd q
-follows t h [] [] (a ∷ rs) os x y p q = absurd p
-follows t h [] (s ∷ ss) rs os x y p q = absurd p
-follows t h (m ∷ ms) [] rs os x y p q = absurd p
-follows t h (m ∷ ms) (s ∷ ss) [] os x y p q = absurd p
-follows t h (m ∷ ms) (s ∷ ss) (a ∷ rs) [] x y p q = absurd q
-follows t h (m ∷ ms) (s ∷ ss) (a ∷ rs) (b ∷ os) x y p q =
-    let one = one_way t h (Number t h) m s a b p.0 q.0 p.3 q.3 p.4 q.4 in
+follows one_asking t h [] [] [] [] x y p q = (refl, p ∙ sym q)
+follows one_asking t h [] [] [] (b ∷ os) x y p q = absurd q
+follows one_asking t h [] [] (a ∷ rs) os x y p q = absurd p
+follows one_asking t h [] (s ∷ ss) rs os x y p q = absurd p
+follows one_asking t h (m ∷ ms) [] rs os x y p q = absurd p
+follows one_asking t h (m ∷ ms) (s ∷ ss) [] os x y p q = absurd p
+follows one_asking t h (m ∷ ms) (s ∷ ss) (a ∷ rs) [] x y p q = absurd q
+follows one_asking t h (m ∷ ms) (s ∷ ss) (a ∷ rs) (b ∷ os) x y p q =
+    let one = one_way one_asking t h (Number t h) m s a b p.0 q.0 p.3 q.3 p.4 q.4 in
     let gains : q.0 ≡ p.0 = sym one.1 in
-    let more = follows t (h ++ p.0) ms ss rs os p.1 q.1 p.5 (subst (λ gain. InTurn t (h ++ gain) ms ss os q.1) gains q.5) in
+    let more = follows one_asking t (h ++ p.0) ms ss rs os p.1 q.1 p.5 (subst (λ gain. InTurn t (h ++ gain) ms ss os q.1) gains q.5) in
     (ap (λ r. r ∷ rs) one.0 ∙ ap (λ l. b ∷ l) more.0, p.2 ∙ ap (λ l. p.0 ++ l) more.1 ∙ ap (λ gain. gain ++ q.1) (sym gains) ∙ sym q.2)

@@ -1,4 +1,4 @@
-pub mod Alones
+pub mod AllMessages
 pub mod Answering
 pub mod Asks
 pub mod Finishing
@@ -6,5 +6,5 @@ pub mod Follows
 pub mod Leading
 pub mod OneMore
 pub mod Pieces
-pub mod Standing
 pub mod Turning
+pub mod Written

@@ -1,5 +1,5 @@
 -- What was answered so far, and one message more.
-use Rattle.std.proofs.Common.{◌≡◌, ◌≢◌, ℕ, ◌+◌, ◌-◌, ◌≤◌, Bool, true, false, not, List, [], ◌∷◌, ◌++◌, length, slice_set, sum_by, take, Some, None, subst, sym, ◌∙◌, ap, refl, arith, append_assoc, append-nil, length-append, zero-add}
+use Rattle.std.proofs.Common.{◌≡◌, ◌≢◌, ℕ, ◌+◌, ◌-◌, Bool, true, false, not, List, [], ◌∷◌, ◌++◌, length, slice_set, sum_by, take, Some, None, subst, sym, ◌∙◌, ap, refl, arith, append_assoc, append-nil, length-append, zero-add}
 use Rattle.std.specs.Bool.{OnTrue, OnFalse}
 use Rattle.std.specs.List.{concat}
 use Rattle.std.specs.Io.KnownBytes.{Appends}

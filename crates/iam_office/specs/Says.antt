@@ -15,13 +15,13 @@ use Rattle.iam_model.specs.History.{state}
 use Rattle.iam_json.specs.declared.call.Call.{Call}
 use Rattle.iam_json.specs.declared.call.Call.TheVariants.{Write, Read}
 use Rattle.iam_json.specs.declared.details.Details.{Details}
-use Rattle.iam_json.specs.declared.details.Details.TheVariants.{ClockFault, KeeperFault}
+use Rattle.iam_json.specs.declared.details.Details.TheVariants.{ClockFault}
 use Rattle.iam_json.specs.declared.reply.ErrorReply.{ErrorReply}
 use Rattle.iam_wire.specs.declared.message.Message.{Message}
 use Rattle.iam_routes.specs.Asked.{IsAsked}
 use Rattle.iam_routes.specs.declared.given.Asked.TheVariants.{Refused, Given}
 use Rattle.iam_answer.specs.Answer.{answer_of}
-use Rattle.iam_answer.specs.Replies.{plain_reply, served_reply, no_memory_reply, stored_reply}
+use Rattle.iam_answer.specs.Replies.{plain_reply, keeper_reply, served_reply, no_memory_reply, stored_reply}
 use Rattle.iam_office.specs.Office.{Number, first, Judged, JudgedAlone, accepts}
 use Rattle.iam_office.specs.declared.office.WriteStop.{WriteStop}
 use Rattle.iam_office.specs.declared.office.WriteStop.TheVariants.{KeeperFault as WriteFailed, OutOfMemory as WriteMemory}
@@ -46,7 +46,7 @@ SaysPlainly step details said bytes = ((said ≡ step) × (bytes ≡ plain_reply
 
 -- a write for which the keeper failed is replied to so, or there was no memory for the reply
 abbrev pub SaysNoKeeper : Moment → Step → List ℕ → Type 0
-SaysNoKeeper moment said bytes = ((said ≡ NoKeeper moment) × (bytes ≡ plain_reply KeeperFault)) ⊎ ((said ≡ NoMemory None (Some moment)) × (bytes ≡ no_memory_reply))
+SaysNoKeeper moment said bytes = ((said ≡ NoKeeper moment) × (bytes ≡ keeper_reply moment)) ⊎ ((said ≡ NoMemory None (Some moment)) × (bytes ≡ no_memory_reply))
 
 -- a write that is answered is replied to so, or there was no memory for the reply; an accepted one is stored then
 abbrev pub IsShown : ℕ → Moment → Answer → Step → List ℕ → Type 0
@@ -91,7 +91,7 @@ IsWrite (Write command) = Unit {0}
 unfoldable pub SaysTo : Tables → List Entry → ℕ → Caller → Call → Step → List ℕ → Type 0
 SaysTo tables history least caller call (Served number moment) bytes = (number ≤ Number tables history) × IsServed tables history least number moment caller call bytes
 SaysTo tables history least caller call NoClock bytes = bytes ≡ plain_reply ClockFault
-SaysTo tables history least caller call (NoKeeper moment) bytes = IsWrite call × (bytes ≡ plain_reply KeeperFault)
+SaysTo tables history least caller call (NoKeeper moment) bytes = IsWrite call × (bytes ≡ keeper_reply moment)
 SaysTo tables history least caller call (NoMemory None moment) bytes = bytes ≡ no_memory_reply
 SaysTo tables history least caller call (NoMemory (Some number) moment) bytes = IsWrite call × (bytes ≡ stored_reply number)
 SaysTo tables history least caller call Plain bytes = ⊥
@@ -198,3 +198,11 @@ InTurn tables history [] [] (reply ∷ replies) more = ⊥
 InTurn tables history [] (step ∷ steps) replies more = ⊥
 InTurn tables history (message ∷ messages) [] replies more = ⊥
 InTurn tables history (message ∷ messages) (step ∷ steps) [] more = ⊥
+
+-- ---- law
+
+-- the replies follow from the tables, the messages and the steps
+abbrev pub RepliesFollow : Type 0
+RepliesFollow =
+    (tables : Tables) (history : List Entry) (messages : List Message) (steps : List Step) (replies others : List (List ℕ)) (more less : List Entry)
+    → InTurn tables history messages steps replies more → InTurn tables history messages steps others less → (replies ≡ others) × (more ≡ less)

@@ -13,7 +13,7 @@ ghost use Rattle.iam_office.specs.Says.{Answers, AnswersTo, SaysPlainly, SaysNoK
 ghost use Rattle.iam_office.specs.Talks.{IsCounted, IsCountedTo, Rise, moments_of, keeper_faults_of};
 
 use crate::office::{Numbered, Office, WriteStop};
-use iam_answer::{plain_reply, served_reply};
+use iam_answer::{keeper_reply, plain_reply, served_reply};
 use iam_json::{Call, Details, ErrorReply};
 use iam_names::Caller;
 use iam_outer::{Clock, Step};
@@ -90,10 +90,7 @@ fn stored(number: u64, moment: Moment) -> Told
 fn no_keeper(alloc: Global, moment: Moment) -> Told
     ensures { SaysNoKeeper moment result.step (reply_of result.step result.reply) }
 {
-    let error = ErrorReply::of(Details::KeeperFault);
-    let reply = plain_reply(alloc, &error);
-    let_go(error);
-    match reply {
+    match keeper_reply(alloc, moment) {
         Ok(bytes) => Told {
             step: Step::NoKeeper { moment },
             reply: Some(bytes),

@@ -1,27 +1,20 @@
 //! The conversation: messages of one line, an office that answers them, and their replies.
 //!
-//! An `Office` stands for first tables and the history since; `Lone` is that of one conversation. `converse` answers
-//! the messages of an input over any office: its contract says which messages, by which bytes, at which moments, and
-//! how it ends. Over a `Lone` the bytes follow from the first tables, the messages and the steps.
+//! An `Office` stands for first tables and the history since. `converse` answers the messages of an input over any
+//! office: its contract says which messages, by which bytes, at which moments, and how it ends. Where nobody else adds
+//! to the history, the bytes follow from the first tables, the messages and the steps.
 #![tactic(auto)]
 
-mod alone;
 mod closing;
 mod conversing;
 mod exchange;
 mod handling;
 mod laws;
-mod lone;
 mod office;
 mod talking;
 mod telling;
 
-pub use alone::converse_alone;
 pub use conversing::converse;
 pub use exchange::{ReadStop, read_all, send_all};
-pub use laws::{all_are_answered, replies_follow};
-pub use lone::Lone;
+pub use laws::{all_are_answered, replies_follow, writes_are_accepted};
 pub use office::{FloorStop, Numbered, Office, WriteStop};
-
-#[cfg(test)]
-mod tests;

@@ -1,4 +1,4 @@
-use Rattle.iam_office.proofs.Alones.{done, fault}
+use Rattle.iam_office.proofs.AllMessages.{done, fault}
 use Rattle.iam_office.proofs.laws.all_are_answered.Goals as goal
 
 pub returns : goal.returns
