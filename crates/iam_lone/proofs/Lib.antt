@@ -1,0 +1,3 @@
+pub mod Alones
+pub mod Entries
+pub mod Standing
