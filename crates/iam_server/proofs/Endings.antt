@@ -2,27 +2,31 @@
 use Rattle.std.proofs.Common.{◌≡◌, refl}
 use Rattle.iam_outer.specs.declared.talk.TalkEnd.{TalkEnd}
 use Rattle.iam_outer.specs.declared.talk.TalkEnd.TheVariants.{Done, Cut, BadFrame, ReadFault, WriteFault, ClockFault, Enough, OutOfMemory}
-use Rattle.iam_server.specs.declared.ends.Status.TheVariants.{Words}
-use Rattle.iam_server.specs.Run.{status_of, CanEnd}
+use Rattle.iam_server.specs.declared.ends.Status.{Status}
+use Rattle.iam_server.specs.declared.ends.Status.TheVariants as status
+use Rattle.iam_server.specs.Run.{status_of, EndsTalking, CanEnd}
 
 -- as a conversation that isn't cut
-pub can_end : (end : TalkEnd) → (end ≡ Cut → ⊥) → CanEnd (status_of end)
-can_end Done whole = tt
-can_end Cut whole = absurd (whole refl)
-can_end BadFrame whole = tt
-can_end ReadFault whole = tt
-can_end WriteFault whole = tt
-can_end ClockFault whole = tt
-can_end Enough whole = tt
-can_end OutOfMemory whole = tt
+pub ends_talking : (end : TalkEnd) → (end ≡ Cut → ⊥) → EndsTalking (status_of end)
+ends_talking Done whole = tt
+ends_talking Cut whole = absurd (whole refl)
+ends_talking BadFrame whole = tt
+ends_talking ReadFault whole = tt
+ends_talking WriteFault whole = tt
+ends_talking ClockFault whole = tt
+ends_talking Enough whole = tt
+ends_talking OutOfMemory whole = tt
 
--- a conversation doesn't end because of words
-pub no_words : (end : TalkEnd) → status_of end ≡ Words → ⊥
-no_words Done is = cc is
-no_words Cut is = cc is
-no_words BadFrame is = cc is
-no_words ReadFault is = cc is
-no_words WriteFault is = cc is
-no_words ClockFault is = cc is
-no_words Enough is = cc is
-no_words OutOfMemory is = cc is
+-- a run whose conversation began ends in one of the ways in which a run can end
+pub talking_can_end : (s : Status) → EndsTalking s → CanEnd s
+talking_can_end status.Done ends = tt
+talking_can_end status.ReadFault ends = tt
+talking_can_end status.WriteFault ends = tt
+talking_can_end status.ClockFault ends = tt
+talking_can_end status.Enough ends = tt
+talking_can_end status.BadFrame ends = tt
+talking_can_end status.OutOfMemory ends = tt
+talking_can_end status.Words ends = absurd ends
+talking_can_end (status.Rows fault) ends = absurd ends
+talking_can_end status.Keeper ends = absurd ends
+talking_can_end status.Cut ends = absurd ends

@@ -1,6 +1,6 @@
 -- The opening of words that are a plan is well formed.
 use Rattle.std.proofs.Common.{◌≡◌, ℕ, List, Some, None, Option, sym, subst}
-use Rattle.std.specs.Prelude.{IsSomeAnd}
+use Rattle.std.specs.Prelude.{IfSome, IsSomeAnd}
 use Rattle.std.specs.Str.Parse.{digits_value}
 use Rattle.iam_names.specs.Domain.{IsDomain, IsCustomer}
 use Rattle.iam_names.specs.Member.{IsMember, member_text}
@@ -16,9 +16,6 @@ of_value : (value : Option (List ℕ)) (Form : List ℕ → Type 0) (Goal : Type
 of_value None Form Goal has gives = absurd has
 of_value (Some text) Form Goal has gives = gives text has
 
-pub planned : (words : List (List ℕ)) (plan : Plan) (opening : Opening) → IsPlan words plan → plan ≡ Apply opening → IsPlan words (Apply opening)
-planned words plan opening is same = subst (IsPlan words) same is
-
 of_pairs : (pairs : List (List ℕ)) (opening : Opening) → IsGiven pairs opening → IsOpening opening
 of_pairs pairs opening given = record {
   number = of_value _ _ (IsNodeNumber opening.number) given.number (λ text (form : IsNumberWord text × (opening.number ≡ digits_value 10 text)). subst IsNodeNumber (sym form.1) form.0.1);
@@ -27,5 +24,9 @@ of_pairs pairs opening given = record {
   admin = of_value _ _ (IsMember opening.admin) given.admin (λ text (form : IsMember opening.admin × (text ≡ member_text opening.admin)). form.0);
 }
 
-pub formed : (words : List (List ℕ)) (plan : Plan) (opening : Opening) → IsPlan words plan → plan ≡ Apply opening → IsOpening opening
-formed words plan opening is same = let given : IsPlan words (Apply opening) = planned words plan opening is same in of_pairs given.0 opening given.2
+-- an opening that the words give is well formed
+pub formed : (words : List (List ℕ)) (plan : Plan) (opening : Option Opening) → IsPlan words plan → plan ≡ Apply opening → IfSome opening IsOpening
+formed words plan None is same = tt
+formed words plan (Some opening) is same =
+    let given : IsPlan words (Apply (Some opening)) = subst (IsPlan words) same is in
+    of_pairs given.0 opening given.2.1

@@ -42,10 +42,14 @@ pub record IsOpening (pairs : List (List ℕ)) (o : Opening) : Type 0 where
   pub customer : HasOption (codes "--customer") pairs (λ t. IsCustomer t × (o.customer ≡ t))
   pub admin : NamesMember (codes "--admin") pairs o.admin
 
--- the command, and behind it these words, of which there are as many as four options and their values
-abbrev pub HasPairs : List (List ℕ) → List (List ℕ) → Type 0
-HasPairs words pairs = (words ≡ codes "apply" ∷ pairs) × (length pairs ≡ 8)
+-- what the words behind the command give: nothing, or each of the four options of an opening once, in any order
+abbrev pub IsPlanOf : List (List ℕ) → Plan → Type 0
+IsPlanOf rest (Apply None) = rest ≡ []
+IsPlanOf rest (Apply (Some opening)) = (length rest ≡ 8) × IsOpening rest opening
 
--- the command, and each of the four options once, in any order
+-- the words behind the command
+abbrev pub IsBehind : List (List ℕ) → List (List ℕ) → Type 0
+IsBehind words rest = words ≡ codes "apply" ∷ rest
+
 abbrev pub IsPlan : List (List ℕ) → Plan → Type 0
-IsPlan words (Apply opening) = (pairs : List (List ℕ)) × HasPairs words pairs × IsOpening pairs opening
+IsPlan words plan = (rest : List (List ℕ)) × IsBehind words rest × IsPlanOf rest plan

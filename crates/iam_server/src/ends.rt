@@ -1,15 +1,8 @@
 // How runs end.
 ghost use Rattle.std.specs.Prelude.{◌≡◌};
 
+use iam_keeping::LoadFault;
 use iam_outer::{List, Step};
-
-/// Why loaded rows are refused.
-#[derive(Clone, Copy, Debug, PartialEq, Eq)]
-pub enum LoadFault {
-    Empty,
-    BadRow { index: u64 },
-    Inconsistent { rule: u8 },
-}
 
 /// How a run ended.
 #[derive(Clone, Copy, Debug, PartialEq, Eq)]

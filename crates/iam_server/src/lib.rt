@@ -8,9 +8,11 @@ mod ends;
 mod plan;
 mod runs;
 
-pub use ends::{LoadFault, RunEnd, Status};
+pub use ends::{RunEnd, Status};
 pub use iam_answer::answer;
-pub use iam_office::{FloorStop, Lone, Numbered, Office, WriteStop, converse};
+pub use iam_keeping::LoadFault;
+pub use iam_lone::Lone;
+pub use iam_office::{FloorStop, Numbered, Office, WriteStop, converse};
 pub use plan::{Plan, PlanStop, plan_of};
 pub use runs::run;
 

@@ -4,7 +4,7 @@ ghost use Rattle.std.specs.Option.{option_copied};
 ghost use Rattle.std.specs.Str.Parse.{digits_value};
 ghost use Rattle.iam_names.specs.Domain.{IsDomain, IsCustomer};
 ghost use Rattle.iam_types.specs.declared.tables.Opening.{Opening};
-ghost use Rattle.iam_server.specs.Plan.{IsNumberWord, value_of, HasOption, IsMemberOption, IsOpening, HasPairs, IsPlan};
+ghost use Rattle.iam_server.specs.Plan.{IsNumberWord, value_of, HasOption, IsMemberOption, IsOpening, IsBehind, IsPlanOf, IsPlan};
 ghost use Rattle.iam_server.specs.declared.plan.Plan.{Plan};
 
 use iam_names::{Member, is_customer, is_domain, read_digits};
@@ -15,7 +15,8 @@ use std::alloc::Global;
 /// What the words ask for.
 #[derive(Drop)]
 pub enum Plan {
-    Apply { opening: Opening },
+    /// The tables of the keeper, and over an empty one the opening's.
+    Apply { opening: Option<Opening> },
 }
 
 #[derive(Clone, Copy, Debug, PartialEq, Eq)]
@@ -147,15 +148,15 @@ fn read_opening(alloc: Global, pairs: &[Text]) -> Result<Opening, PlanStop>
     })
 }
 
-// The pairs behind the command, where there is room for four options with their values.
-fn pairs_of(words: &[Text]) -> Option<&[Text]>
-    ensures some { IfSome result (λ pairs. HasPairs words.now pairs.now) }
-    ensures none { IfNone result ((pairs : List (List ℕ)) → ¬ HasPairs words.now pairs) }
+// The words behind the command.
+fn behind_command(words: &[Text]) -> Option<&[Text]>
+    ensures some { IfSome result (λ rest. IsBehind words.now rest.now) }
+    ensures none { IfNone result ((rest : List (List ℕ)) → ¬ IsBehind words.now rest) }
 {
     match words {
-        [command, pairs @ ..] => {
-            if command.as_str() == "apply" && pairs.len() == 8 {
-                Some(pairs)
+        [command, rest @ ..] => {
+            if command.as_str() == "apply" {
+                Some(rest)
             } else {
                 None
             }
@@ -164,15 +165,34 @@ fn pairs_of(words: &[Text]) -> Option<&[Text]>
     }
 }
 
+// The plan of the words behind the command: none of them, or four options with their values.
+#[tactic(auto, using(crate::proofs::Plans::none_fits))]
+fn plan_behind(alloc: Global, rest: &[Text]) -> Result<Plan, PlanStop>
+    ensures ok { IfOk result (λ plan. IsPlanOf rest.now plan) }
+    ensures words { IsErrOf result PlanStop.Words → (plan : Plan) → ¬ IsPlanOf rest.now plan }
+{
+    if rest.is_empty() {
+        return Ok(Plan::Apply { opening: None });
+    }
+    if rest.len() != 8 {
+        return Err(PlanStop::Words);
+    }
+    match read_opening(alloc, rest) {
+        Ok(opening) => Ok(Plan::Apply {
+            opening: Some(opening),
+        }),
+        Err(stop) => Err(stop),
+    }
+}
+
 /// The plan that the words give.
+#[tactic(auto, using(crate::proofs::Plans::none_behind))]
 pub fn plan_of(alloc: Global, words: &[Text]) -> Result<Plan, PlanStop>
     ensures ok { IfOk result (λ plan. IsPlan words.now plan) }
     ensures words { IsErrOf result PlanStop.Words → (plan : Plan) → ¬ IsPlan words.now plan }
 {
-    match pairs_of(words) {
-        Some(pairs) => Ok(Plan::Apply {
-            opening: read_opening(alloc, pairs)?,
-        }),
+    match behind_command(words) {
+        Some(rest) => plan_behind(alloc, rest),
         None => Err(PlanStop::Words),
     }
 }

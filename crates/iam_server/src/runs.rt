@@ -1,21 +1,25 @@
 // One run of the program.
-ghost use Rattle.std.specs.Prelude.{◌≡◌, ◌⊎◌, [], IfOk, IfSome};
-ghost use Rattle.iam_model.specs.Opening.{IsOpening, opening_tables as tables_of};
+ghost use Rattle.std.specs.Prelude.{◌≡◌, ◌≤◌, ◌⊎◌, [], IfOk, IfSome};
+ghost use Rattle.std.specs.declared.option.Option.{Option as Opt};
+ghost use Rattle.iam_model.specs.Good.{Good};
+ghost use Rattle.iam_model.specs.Opening.{IsOpening};
 ghost use Rattle.iam_outer.specs.Causes.{Rose};
 ghost use Rattle.iam_outer.specs.Given.{AppendsMoments};
-ghost use Rattle.iam_office.specs.Talks.{all_moments};
+ghost use Rattle.iam_office.specs.Talks.{Rise, all_keeper_faults, all_moments};
+ghost use Rattle.iam_rows.specs.Kept.{KeepsTables};
 ghost use Rattle.iam_types.specs.declared.tables.Opening.{Opening as AnOpening};
+ghost use Rattle.iam_types.specs.declared.tables.Tables.{Tables as TheTables};
 ghost use Rattle.iam_server.specs.Plan.{IsPlan};
-ghost use Rattle.iam_server.specs.Run.{status_of as its_status, RanFrom, EndsEarly, CanEnd};
+ghost use Rattle.iam_server.specs.Run.{status_of as its_status, TalkedFrom, RanFrom, EndsUnread, EndsUnopened, EndsTalking, CanEnd};
 ghost use Rattle.iam_server.specs.declared.plan.Plan.{Plan};
 
 use crate::plan::{Plan, PlanStop, plan_of};
 use crate::{RunEnd, Status};
 use iam_judge::Index;
-use iam_model::openings_are_good;
-use iam_office::converse_alone;
+use iam_keeping::{OpenStop, open};
+use iam_lone::converse_alone;
 use iam_outer::{Clock, Keeper, Line, List, OutOfMemory, TalkEnd, Text, Zones};
-use iam_tables::{Catalogue, Opening, Tables, opening_tables};
+use iam_tables::{Catalogue, Opening, Tables};
 use std::alloc::Global;
 
 fn status_of(end: TalkEnd) -> Status
@@ -33,40 +37,11 @@ fn status_of(end: TalkEnd) -> Status
     }
 }
 
-fn opening_of(plan: Plan) -> Opening
+fn opening_of(plan: Plan) -> Option<Opening>
     ensures { plan ≡ Plan.Apply result }
 {
     match plan {
         Plan::Apply { opening } => opening,
-    }
-}
-
-// Here an opening is dropped: behind the branches of that nothing would be known of it.
-fn let_go(_opening: Opening) {}
-
-fn tables_from(alloc: Global, opening: Opening) -> Result<Tables, OutOfMemory>
-    ensures { IfOk result (λ tables. tables ≡ tables_of opening) }
-{
-    let tables = opening_tables(alloc, &opening);
-    let_go(opening);
-    tables
-}
-
-// The index over the opening's tables.
-fn index_of(
-    alloc: Global,
-    opening: Opening,
-    catalogue: Catalogue,
-    zones: Zones,
-) -> Result<Index, OutOfMemory>
-    requires { IsOpening opening }
-    ensures { IfOk result (λ index. index ≡ tables_of opening) }
-{
-    openings_are_good();
-    let tables = tables_from(alloc, opening)?;
-    match Index::build(alloc, tables, catalogue, zones) {
-        Ok(index) => Ok(index),
-        Err(_) => Err(OutOfMemory),
     }
 }
 
@@ -81,74 +56,145 @@ fn early(alloc: Global, status: Status) -> RunEnd
     }
 }
 
-// The conversation over the line, from the index's tables on.
-#[tactic(auto, using(crate::proofs::Endings::can_end, crate::proofs::Endings::no_words))]
-fn talk_over<L: Line, C: Clock>(alloc: Global, index: Index, line: &mut L, clock: &mut C) -> RunEnd
-    ensures ran { IfSome (L.left line.old) (λ input. RanFrom index result.status result.trace input (L.taken line.old) (L.taken line.new)) }
-    ensures ends { CanEnd result.status }
-    ensures talks { result.status ≡ Status.Words → ⊥ }
+// The index over good tables.
+fn index_of(
+    alloc: Global,
+    tables: Tables,
+    catalogue: Catalogue,
+    zones: Zones,
+) -> Result<Index, OutOfMemory>
+    requires { Good tables }
+    ensures { IfOk result (λ index. index ≡ tables) }
+{
+    match Index::build(alloc, tables, catalogue, zones) {
+        Ok(index) => Ok(index),
+        Err(_) => Err(OutOfMemory),
+    }
+}
+
+// The conversation over the line, from the index's tables on, which are the keeper's.
+#[tactic(auto, using(crate::proofs::Endings::ends_talking))]
+fn talk_over<L: Line, C: Clock, P: Keeper>(
+    alloc: Global,
+    index: Index,
+    keeper: &mut P,
+    line: &mut L,
+    clock: &mut C,
+) -> RunEnd
+    requires { KeepsTables (P.rows keeper.old) index }
+    ensures ran { IfSome (L.left line.old) (λ input. TalkedFrom index (P.rows keeper.new) (L.taken line.old) (L.taken line.new) input result.status result.trace) }
+    ensures kept { (tables : TheTables) × Good tables × KeepsTables (P.rows keeper.new) tables }
+    ensures ends { EndsTalking result.status }
+    ensures faults { Rise (all_keeper_faults result.trace) (P.keeper_faults keeper.old) (P.keeper_faults keeper.new) }
     ensures moments { AppendsMoments (C.given clock.old) (C.given clock.new) (all_moments result.trace) }
     ensures read_fault { result.status ≡ Status.ReadFault → Rose (L.read_faults line.old) (L.read_faults line.new) }
     ensures write_fault { result.status ≡ Status.WriteFault → Rose (L.write_faults line.old) (L.write_faults line.new) }
     ensures clock_fault { result.status ≡ Status.ClockFault → Rose (C.clock_faults clock.old) (C.clock_faults clock.new) }
 {
-    let talk = converse_alone(alloc, index, line, clock);
+    let talk = converse_alone(alloc, index, keeper, line, clock);
     RunEnd {
         status: status_of(talk.end),
         trace: talk.trace,
     }
 }
 
-// Makes the opening's tables and talks over the line.
-fn apply<L: Line, C: Clock>(
+// The same over good tables, which are the keeper's. Memory may be refused before the first message.
+fn talk_from<L: Line, C: Clock, P: Keeper>(
     alloc: Global,
-    opening: Opening,
+    tables: Tables,
     line: &mut L,
     clock: &mut C,
+    keeper: &mut P,
     catalogue: Catalogue,
     zones: Zones,
 ) -> RunEnd
-    requires { IsOpening opening }
-    ensures ran { (EndsEarly result.status × (line.new ≡ line.old) × (clock.new ≡ clock.old) × (result.trace ≡ []))
-        ⊎ IfSome (L.left line.old) (λ input. RanFrom (tables_of opening) result.status result.trace input (L.taken line.old) (L.taken line.new)) }
-    ensures ends { CanEnd result.status }
-    ensures talks { result.status ≡ Status.Words → ⊥ }
+    requires good { Good tables }
+    requires rows { KeepsTables (P.rows keeper.old) tables }
+    ensures ran { ((result.status ≡ Status.OutOfMemory) × (keeper.new ≡ keeper.old) × (line.new ≡ line.old) × (clock.new ≡ clock.old) × (result.trace ≡ []))
+        ⊎ IfSome (L.left line.old) (λ input. TalkedFrom tables (P.rows keeper.new) (L.taken line.old) (L.taken line.new) input result.status result.trace) }
+    ensures kept { (tables : TheTables) × Good tables × KeepsTables (P.rows keeper.new) tables }
+    ensures ends { EndsTalking result.status }
+    ensures faults { Rise (all_keeper_faults result.trace) (P.keeper_faults keeper.old) (P.keeper_faults keeper.new) }
     ensures moments { AppendsMoments (C.given clock.old) (C.given clock.new) (all_moments result.trace) }
     ensures read_fault { result.status ≡ Status.ReadFault → Rose (L.read_faults line.old) (L.read_faults line.new) }
     ensures write_fault { result.status ≡ Status.WriteFault → Rose (L.write_faults line.old) (L.write_faults line.new) }
     ensures clock_fault { result.status ≡ Status.ClockFault → Rose (C.clock_faults clock.old) (C.clock_faults clock.new) }
 {
-    match index_of(alloc, opening, catalogue, zones) {
-        Ok(index) => talk_over(alloc, index, line, clock),
+    match index_of(alloc, tables, catalogue, zones) {
+        Ok(index) => talk_over(alloc, index, keeper, line, clock),
         Err(_) => early(alloc, Status::OutOfMemory),
+    }
+}
+
+// Opens the keeper's tables and talks over the line.
+fn apply<L: Line, C: Clock, P: Keeper>(
+    alloc: Global,
+    opening: Option<Opening>,
+    line: &mut L,
+    clock: &mut C,
+    keeper: &mut P,
+    catalogue: Catalogue,
+    zones: Zones,
+) -> RunEnd
+    requires { IfSome opening IsOpening }
+    ensures ran { (EndsUnopened opening (P.rows keeper.old) (P.rows keeper.new) result.status × (line.new ≡ line.old) × (clock.new ≡ clock.old) × (result.trace ≡ []))
+        ⊎ (((tables : TheTables) × Good tables × KeepsTables (P.rows keeper.new) tables)
+        × IfSome (L.left line.old) (λ input. RanFrom opening (P.rows keeper.old) (P.rows keeper.new) (L.taken line.old) (L.taken line.new) input result.status result.trace)) }
+    ensures ends { CanEnd result.status }
+    ensures talks { result.status ≡ Status.Words → ⊥ }
+    ensures keeper { result.status ≡ Status.Keeper → Rose (P.keeper_faults keeper.old) (P.keeper_faults keeper.new) }
+    ensures faults { Rise (all_keeper_faults result.trace) (P.keeper_faults keeper.old) (P.keeper_faults keeper.new) }
+    ensures moments { AppendsMoments (C.given clock.old) (C.given clock.new) (all_moments result.trace) }
+    ensures read_fault { result.status ≡ Status.ReadFault → Rose (L.read_faults line.old) (L.read_faults line.new) }
+    ensures write_fault { result.status ≡ Status.WriteFault → Rose (L.write_faults line.old) (L.write_faults line.new) }
+    ensures clock_fault { result.status ≡ Status.ClockFault → Rose (C.clock_faults clock.old) (C.clock_faults clock.new) }
+{
+    match open(alloc, opening, keeper) {
+        Ok(tables) => talk_from(alloc, tables, line, clock, keeper, catalogue, zones),
+        Err(OpenStop::Rows(fault)) => early(alloc, Status::Rows(fault)),
+        Err(OpenStop::Keeper) => early(alloc, Status::Keeper),
+        Err(OpenStop::OutOfMemory) => early(alloc, Status::OutOfMemory),
     }
 }
 
 /// Does what the words say over the line.
 ///
-/// By now that is `apply` with an opening: the messages of the line are answered one after another, in the state that
-/// the opening made. The keeper isn't called yet.
+/// By now that is `apply`: the rows that the keeper has are loaded, or, where it has none, those of the opening are
+/// kept. Then the messages of the line are answered one after another from these tables on, and each accepted change is
+/// kept before it is answered. An opening is passed over where rows are there.
 pub fn run<L: Line, C: Clock, P: Keeper>(
     alloc: Global,
     words: &[Text],
     line: &mut L,
     clock: &mut C,
-    _keeper: &mut P,
+    keeper: &mut P,
     catalogue: Catalogue,
     zones: Zones,
 ) -> RunEnd
     ensures words { result.status ≡ Status.Words → (plan : Plan) → ¬ IsPlan words.now plan }
-    ensures ran { (EndsEarly result.status × (line.new ≡ line.old) × (clock.new ≡ clock.old) × (result.trace ≡ []))
-        ⊎ ((opening : AnOpening) × IsPlan words.now (Plan.Apply opening) × IfSome (L.left line.old) (λ input. RanFrom (tables_of opening) result.status result.trace input (L.taken line.old) (L.taken line.new))) }
+    ensures ran { (EndsUnread result.status × (line.new ≡ line.old) × (clock.new ≡ clock.old) × (keeper.new ≡ keeper.old) × (result.trace ≡ []))
+        ⊎ ((opening : Opt AnOpening) × IsPlan words.now (Plan.Apply opening)
+        × ((EndsUnopened opening (P.rows keeper.old) (P.rows keeper.new) result.status × (line.new ≡ line.old) × (clock.new ≡ clock.old) × (result.trace ≡ []))
+        ⊎ (((tables : TheTables) × Good tables × KeepsTables (P.rows keeper.new) tables)
+        × IfSome (L.left line.old) (λ input. RanFrom opening (P.rows keeper.old) (P.rows keeper.new) (L.taken line.old) (L.taken line.new) input result.status result.trace)))) }
     ensures ends { CanEnd result.status }
+    ensures keeper { result.status ≡ Status.Keeper → Rose (P.keeper_faults keeper.old) (P.keeper_faults keeper.new) }
+    ensures faults { Rise (all_keeper_faults result.trace) (P.keeper_faults keeper.old) (P.keeper_faults keeper.new) }
     ensures moments { AppendsMoments (C.given clock.old) (C.given clock.new) (all_moments result.trace) }
     ensures read_fault { result.status ≡ Status.ReadFault → Rose (L.read_faults line.old) (L.read_faults line.new) }
     ensures write_fault { result.status ≡ Status.WriteFault → Rose (L.write_faults line.old) (L.write_faults line.new) }
     ensures clock_fault { result.status ≡ Status.ClockFault → Rose (C.clock_faults clock.old) (C.clock_faults clock.new) }
-    ensures keeper { _keeper.new ≡ _keeper.old }
 {
     match plan_of(alloc, words) {
-        Ok(plan) => apply(alloc, opening_of(plan), line, clock, catalogue, zones),
+        Ok(plan) => apply(
+            alloc,
+            opening_of(plan),
+            line,
+            clock,
+            keeper,
+            catalogue,
+            zones,
+        ),
         Err(PlanStop::Words) => early(alloc, Status::Words),
         Err(PlanStop::OutOfMemory) => early(alloc, Status::OutOfMemory),
     }

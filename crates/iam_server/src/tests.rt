@@ -1,9 +1,9 @@
 ghost use Rattle.std.specs.Prelude.{◌≡◌, IfOk};
 
-use crate::{Status, run};
+use crate::{LoadFault, RunEnd, Status, run};
 use iam_outer::{
-    List, MemoryClock, MemoryKeeper, MemorySink, MemorySource, Moment, OutOfMemory, Pair, Text,
-    Zones,
+    Keeper, List, MemoryClock, MemoryKeeper, MemorySink, MemorySource, Moment, OutOfMemory, Pair,
+    Row, Step, Text, Zones,
 };
 use iam_tables::Catalogue;
 use std::alloc::{AllocError, Global};
@@ -43,15 +43,30 @@ const NOBODY: &str = "";
 /// What a request asks: method and target, caller, body.
 type Asked = (&'static str, &'static str, &'static str);
 
-/// Its reply: code and phrase, the number of the state that gave it, or 0, and the body.
+/// Its reply: code and phrase, the number of the state that gave it, or one of the two below, and the body.
 type Answered = (&'static str, u64, &'static str);
 
+/// No state gave the reply.
+const NO_STATE: u64 = 0;
+
+/// No state gave the reply, and it shows its moment alone.
+const MOMENT_ALONE: u64 = u64::MAX;
+
+// The request of `examples/first-request.http`.
+const FIRST_ASKED: Asked = (
+    TEST,
+    ADA,
+    "{\"permissions\":[\"resourcemanager.organizations.get\",\"storage.objects.get\"]}",
+);
+
+const FIRST_ANSWERED: Answered = (
+    "200 OK",
+    1,
+    "{\"permissions\":[\"resourcemanager.organizations.get\"]}",
+);
+
 const ASKED: [Asked; 16] = [
-    (
-        TEST,
-        ADA,
-        "{\"permissions\":[\"resourcemanager.organizations.get\",\"storage.objects.get\"]}",
-    ),
+    FIRST_ASKED,
     (
         TEST,
         NOBODY,
@@ -84,6 +99,9 @@ const POLICY: &str =
 const BOTH: &str =
     "{\"policy\":{\"version\":1,\"etag\":\"AAAAAAAAAAE=\",\"bindings\":[{\"role\":\"roles/resourcemanager.organizationAdmin\",\"members\":[\"user:ada@example.com\"]},{\"role\":\"roles/viewer\",\"members\":[\"user:bob@example.com\"]}]}}";
 
+const BOTH_SET: &str =
+    "{\"bindings\":[{\"members\":[\"user:ada@example.com\"],\"role\":\"roles/resourcemanager.organizationAdmin\"},{\"members\":[\"user:bob@example.com\"],\"role\":\"roles/viewer\"}],\"etag\":\"AAAAAAAAAAI=\",\"version\":1}";
+
 const BAD_METHOD: &str =
     "{\"error\":{\"code\":405,\"details\":{},\"message\":\"BAD_METHOD\",\"status\":\"INVALID_ARGUMENT\"}}";
 
@@ -107,11 +125,7 @@ const CLOCK_FAULT: &str =
     "{\"error\":{\"code\":503,\"details\":{},\"message\":\"CLOCK_FAULT\",\"status\":\"UNAVAILABLE\"}}";
 
 const ANSWERED: [Answered; 16] = [
-    (
-        "200 OK",
-        1,
-        "{\"permissions\":[\"resourcemanager.organizations.get\"]}",
-    ),
+    FIRST_ANSWERED,
     ("200 OK", 1, "{\"permissions\":[]}"),
     (
         "400 Bad Request",
@@ -157,9 +171,9 @@ const ANSWERED: [Answered; 16] = [
     ("405 Method Not Allowed", 0, BAD_METHOD),
 ];
 
-fn words(alloc: Global) -> Result<List<Text>, OutOfMemory> {
+fn words(alloc: Global, texts: &[&str]) -> Result<List<Text>, OutOfMemory> {
     let mut words = List::new(alloc);
-    for text in WORDS {
+    for text in texts {
         words.push(Text::of(alloc, text)?)?;
     }
     Ok(words)
@@ -182,7 +196,7 @@ fn push_request(text: &mut String, line: &str, caller: &str, body: &str) -> Resu
     text.push_str(body)
 }
 
-// A reply that the state of this number gave, or, with 0, that none gave.
+// A reply that the state of this number gave, or that none gave.
 fn push_reply(text: &mut String, phrase: &str, number: u64, body: &str) -> Result<(), AllocError> {
     let size = body.len();
     text.push_str("HTTP/1.1 ")?;
@@ -191,11 +205,11 @@ fn push_reply(text: &mut String, phrase: &str, number: u64, body: &str) -> Resul
         text,
         "\r\ncontent-type: application/json\r\ncontent-length: {size}\r\n"
     )?;
-    if number != 0 {
-        write!(
-            text,
-            "x-iam-revision: {number}\r\nx-iam-moment: 1767225600\r\n"
-        )?;
+    if number != NO_STATE && number != MOMENT_ALONE {
+        write!(text, "x-iam-revision: {number}\r\n")?;
+    }
+    if number != NO_STATE {
+        text.push_str("x-iam-moment: 1767225600\r\n")?;
     }
     text.push_str("\r\n")?;
     text.push_str(body)
@@ -233,15 +247,16 @@ const AMPLE: Outside = Outside {
 };
 
 // What a run over this input ends with, and what the sink took.
-fn outcome(
+fn outcome_over(
     alloc: Global,
+    texts: &[&str],
+    keeper: &mut MemoryKeeper,
     input: &[u8],
     outside: Outside,
-) -> Result<(Status, List<u8>), OutOfMemory> {
-    let words = words(alloc)?;
+) -> Result<(RunEnd, List<u8>), OutOfMemory> {
+    let words = words(alloc, texts)?;
     let moments = list(alloc, &[Moment(1_767_225_600)])?;
     let mut clock = MemoryClock::new(moments, list(alloc, &[outside.failing_clock])?);
-    let mut keeper = MemoryKeeper::new(alloc, List::new(alloc), List::new(alloc));
     let source = MemorySource::new(list(alloc, input)?, list(alloc, &[outside.failing_read])?);
     let sink = MemorySink::new(alloc, outside.room, List::new(alloc))?;
     let mut line = Pair::new(source, sink);
@@ -252,11 +267,22 @@ fn outcome(
         words.as_slice(),
         &mut line,
         &mut clock,
-        &mut keeper,
+        keeper,
         catalogue,
         zones,
     );
-    Ok((end.status, list(alloc, line.sink.taken())?))
+    Ok((end, list(alloc, line.sink.taken())?))
+}
+
+// The same over an empty keeper.
+fn outcome(
+    alloc: Global,
+    input: &[u8],
+    outside: Outside,
+) -> Result<(Status, List<u8>), OutOfMemory> {
+    let mut keeper = MemoryKeeper::new(alloc, List::new(alloc), List::new(alloc));
+    let (end, taken) = outcome_over(alloc, &WORDS, &mut keeper, input, outside)?;
+    Ok((end.status, taken))
 }
 
 fn comes_to(
@@ -268,24 +294,6 @@ fn comes_to(
 ) -> Result<bool, OutOfMemory> {
     let (ended, taken) = outcome(alloc, input.as_bytes(), outside)?;
     Ok(ended == status && taken.as_slice() == output.as_bytes())
-}
-
-fn is_answered(alloc: Global, asked: Asked, answered: Answered) -> Result<bool, OutOfMemory> {
-    let (line, caller, body) = asked;
-    let mut input = String::new(alloc);
-    push_request(&mut input, line, caller, body)?;
-    let (phrase, number, body) = answered;
-    let mut output = String::new(alloc);
-    push_reply(&mut output, phrase, number, body)?;
-    comes_to(alloc, input.as_str(), AMPLE, Status::Done, output.as_str())
-}
-
-#[test]
-fn a_message_alone_is_answered(rt: HostRuntime) -> Result<(), Fail> {
-    for (asked, answered) in ASKED.into_iter().zip(ANSWERED) {
-        assert!(rt; is_answered(rt.alloc(), asked, answered)?);
-    }
-    Ok(())
 }
 
 #[test]
@@ -333,11 +341,7 @@ const SETTINGS: [Asked; 8] = [
 ];
 
 const SET_ANSWERED: [Answered; 8] = [
-    (
-        "200 OK",
-        2,
-        "{\"bindings\":[{\"members\":[\"user:ada@example.com\"],\"role\":\"roles/resourcemanager.organizationAdmin\"},{\"members\":[\"user:bob@example.com\"],\"role\":\"roles/viewer\"}],\"etag\":\"AAAAAAAAAAI=\",\"version\":1}",
-    ),
+    ("200 OK", 2, BOTH_SET),
     (
         "200 OK",
         2,
@@ -512,5 +516,265 @@ fn faults_are_told(rt: HostRuntime) -> Result<(), Fail> {
             output.as_str()
         )?
     );
+    Ok(())
+}
+
+/// A row: its part, its name and its body.
+type Kept = (&'static str, &'static str, &'static str);
+
+const HERE: &str = "organizations/1000";
+
+const POLICY_ROW: Kept = (
+    "allow",
+    HERE,
+    "{\"bindings\":[{\"members\":[\"user:ada@example.com\"],\"role\":\"roles/resourcemanager.organizationAdmin\"}],\"set\":1}",
+);
+
+const ORG_ROW: Kept = (
+    "org",
+    HERE,
+    "{\"changes\":1,\"customer\":\"C01\",\"domain\":\"example.com\",\"next\":1,\"schema\":1}",
+);
+
+const CHANGED_ORG_ROW: Kept = (
+    "org",
+    HERE,
+    "{\"changes\":2,\"customer\":\"C01\",\"domain\":\"example.com\",\"next\":1,\"schema\":1}",
+);
+
+const SET_ROW: Kept = (
+    "allow",
+    HERE,
+    "{\"bindings\":[{\"members\":[\"user:ada@example.com\"],\"role\":\"roles/resourcemanager.organizationAdmin\"},{\"members\":[\"user:bob@example.com\"],\"role\":\"roles/viewer\"}],\"set\":2}",
+);
+
+const KEEPER_FAULT: &str =
+    "{\"error\":{\"code\":503,\"details\":{},\"message\":\"KEEPER_FAULT\",\"status\":\"UNAVAILABLE\"}}";
+
+/// A run over a keeper: the words, its rows, which call fails, what is asked and answered, how it ends, and the rows then.
+struct Keeping {
+    words: &'static [&'static str],
+    rows: &'static [Kept],
+    failing: u64,
+    asked: &'static [Asked],
+    answered: &'static [Answered],
+    status: Status,
+    kept: &'static [Kept],
+}
+
+const LOADED: [Keeping; 10] = [
+    // The opening's rows are kept.
+    Keeping {
+        words: &WORDS,
+        rows: &[],
+        failing: 0,
+        asked: &[],
+        answered: &[],
+        status: Status::Done,
+        kept: &[POLICY_ROW, ORG_ROW],
+    },
+    // They are loaded without an opening.
+    Keeping {
+        words: &["apply"],
+        rows: &[POLICY_ROW, ORG_ROW],
+        failing: 0,
+        asked: &[FIRST_ASKED],
+        answered: &[FIRST_ANSWERED],
+        status: Status::Done,
+        kept: &[POLICY_ROW, ORG_ROW],
+    },
+    // Where rows are there, an opening is passed over.
+    Keeping {
+        words: &WORDS,
+        rows: &[SET_ROW, CHANGED_ORG_ROW],
+        failing: 0,
+        asked: &[(
+            TEST,
+            BOB,
+            "{\"permissions\":[\"resourcemanager.projects.get\"]}",
+        )],
+        answered: &[(
+            "200 OK",
+            2,
+            "{\"permissions\":[\"resourcemanager.projects.get\"]}",
+        )],
+        status: Status::Done,
+        kept: &[SET_ROW, CHANGED_ORG_ROW],
+    },
+    // The second row is bad.
+    Keeping {
+        words: &["apply"],
+        rows: &[POLICY_ROW, ("org", HERE, "{}")],
+        failing: 0,
+        asked: &[(READ, ADA, "")],
+        answered: &[],
+        status: Status::Rows(LoadFault::BadRow { index: 1 }),
+        kept: &[POLICY_ROW, ("org", HERE, "{}")],
+    },
+    // There is no organisation.
+    Keeping {
+        words: &["apply"],
+        rows: &[POLICY_ROW],
+        failing: 0,
+        asked: &[(READ, ADA, "")],
+        answered: &[],
+        status: Status::Rows(LoadFault::Inconsistent { rule: 1 }),
+        kept: &[POLICY_ROW],
+    },
+    // The policy was set by a change that wasn't made.
+    Keeping {
+        words: &["apply"],
+        rows: &[SET_ROW, ORG_ROW],
+        failing: 0,
+        asked: &[],
+        answered: &[],
+        status: Status::Rows(LoadFault::Inconsistent { rule: 14 }),
+        kept: &[SET_ROW, ORG_ROW],
+    },
+    // There is nothing to load and nothing to open.
+    Keeping {
+        words: &["apply"],
+        rows: &[],
+        failing: 0,
+        asked: &[(READ, ADA, "")],
+        answered: &[],
+        status: Status::Rows(LoadFault::Empty),
+        kept: &[],
+    },
+    // Loading fails.
+    Keeping {
+        words: &WORDS,
+        rows: &[],
+        failing: 1,
+        asked: &[(READ, ADA, "")],
+        answered: &[],
+        status: Status::Keeper,
+        kept: &[],
+    },
+    // The opening's commit fails.
+    Keeping {
+        words: &WORDS,
+        rows: &[],
+        failing: 2,
+        asked: &[(READ, ADA, "")],
+        answered: &[],
+        status: Status::Keeper,
+        kept: &[],
+    },
+    // The commit of a change fails, and the same change is made behind it.
+    Keeping {
+        words: &WORDS,
+        rows: &[],
+        failing: 3,
+        asked: &[(SET, ADA, BOTH), (SET, ADA, BOTH)],
+        answered: &[
+            ("503 Service Unavailable", MOMENT_ALONE, KEEPER_FAULT),
+            ("200 OK", 2, BOTH_SET),
+        ],
+        status: Status::Done,
+        kept: &[SET_ROW, CHANGED_ORG_ROW],
+    },
+];
+
+fn rows_of(alloc: Global, rows: &[Kept]) -> Result<List<Row>, OutOfMemory> {
+    let mut list = List::new(alloc);
+    for (part, name, body) in rows {
+        list.push(Row {
+            part: Text::of(alloc, part)?,
+            name: Text::of(alloc, name)?,
+            body: Text::of(alloc, body)?,
+        })?;
+    }
+    Ok(list)
+}
+
+fn keeps(alloc: Global, case: &Keeping) -> Result<bool, Fail> {
+    let rows = rows_of(alloc, case.rows)?;
+    let mut keeper = MemoryKeeper::new(alloc, rows, list(alloc, &[case.failing])?);
+    let input = requests(alloc, case.asked)?;
+    let output = replies(alloc, case.answered)?;
+    let (end, taken) = outcome_over(alloc, case.words, &mut keeper, input.as_bytes(), AMPLE)?;
+    let kept = keeper.load();
+    let wanted = rows_of(alloc, case.kept)?;
+    Ok(end.status == case.status && taken.as_slice() == output.as_bytes() && kept == Ok(wanted))
+}
+
+#[test]
+fn rows_are_loaded_and_kept(rt: HostRuntime) -> Result<(), Fail> {
+    for case in &LOADED {
+        assert!(rt; keeps(rt.alloc(), case)?);
+    }
+    Ok(())
+}
+
+// Two settings that are accepted in every state.
+const TWICE: [Asked; 2] = [
+    (
+        SET,
+        ADA,
+        "{\"policy\":{\"bindings\":[{\"role\":\"roles/resourcemanager.organizationAdmin\",\"members\":[\"user:ada@example.com\"]}]}}",
+    ),
+    (
+        SET,
+        ADA,
+        "{\"policy\":{\"bindings\":[{\"role\":\"roles/resourcemanager.organizationAdmin\",\"members\":[\"user:ada@example.com\"]},{\"role\":\"roles/viewer\",\"members\":[\"user:bob@example.com\"]}]}}",
+    ),
+];
+
+// The number of the change that a step says was made, if it says so.
+fn made_at(step: &Step) -> Option<u64> {
+    match step {
+        Step::Served { number, .. } => Some(*number),
+        Step::NoMemory { stored, .. } => *stored,
+        _ => None,
+    }
+}
+
+// The number of the last change that the steps tell, each standing directly behind the one before; 1 is the opening's.
+fn last_told(steps: &[Step]) -> Option<u64> {
+    let mut last = 1u64;
+    for step in steps {
+        match made_at(step) {
+            Some(number) if number.checked_sub(1) == Some(last) => last = number,
+            Some(_) => return None,
+            None => {}
+        }
+    }
+    Some(last)
+}
+
+// The body of the organisation's row, as it is written.
+fn kept_org(rows: &[Row]) -> Option<&str> {
+    match rows {
+        [_, org] => Some(org.body.as_str()),
+        _ => None,
+    }
+}
+
+// The keeper has the rows of the last change that the steps tell; before the first step it may have none.
+fn keeps_what_is_told(
+    alloc: Global,
+    keeper: &mut MemoryKeeper,
+    steps: &[Step],
+) -> Result<bool, Fail> {
+    let rows = keeper.load().map_err(|_| "no rows")?;
+    let Some(last) = last_told(steps) else {
+        return Ok(false);
+    };
+    let Some(body) = kept_org(rows.as_slice()) else {
+        return Ok(rows.is_empty() && steps.is_empty());
+    };
+    let wanted = format!(in alloc;
+        "{{\"changes\":{last},\"customer\":\"C01\",\"domain\":\"example.com\",\"next\":1,\"schema\":1}}"
+    )?;
+    Ok(body == wanted.as_str())
+}
+
+#[test]
+fn what_is_told_is_kept(rt: HostRuntime) -> Result<(), Fail> {
+    let mut keeper = MemoryKeeper::new(rt.alloc(), List::new(rt.alloc()), List::new(rt.alloc()));
+    let input = requests(rt.alloc(), &TWICE)?;
+    let (end, _taken) = outcome_over(rt.alloc(), &WORDS, &mut keeper, input.as_bytes(), AMPLE)?;
+    assert!(rt; keeps_what_is_told(rt.alloc(), &mut keeper, end.trace.as_slice())?);
     Ok(())
 }
