@@ -26,74 +26,38 @@ fn same_text(left: &Text, right: &Text) -> bool
 pub fn same(left: &Expr, right: &Expr) -> bool
     ensures { IsTrue result ↔ (left.now ≡ right.now) }
 {
-    match left {
-        Expr::Bool(a, x) => match right {
-            Expr::Bool(b, y) => same_span(*a, *b) && *x == *y,
-            _ => false,
-        },
-        Expr::Int(a, x) => match right {
-            Expr::Int(b, y) => same_span(*a, *b) && *x == *y,
-            _ => false,
-        },
-        Expr::Str(a, x) => match right {
-            Expr::Str(b, y) => same_span(*a, *b) && same_text(x, y),
-            _ => false,
-        },
-        Expr::Name(a, x) => match right {
-            Expr::Name(b, y) => same_span(*a, *b) && same_text(x, y),
-            _ => false,
-        },
-        Expr::Select(a, x, f) => match right {
-            Expr::Select(b, y, g) => {
-                same_span(*a, *b) && same_text(f, g) && same(x.get(), y.get())
-            }
-            _ => false,
-        },
-        Expr::Call(a, f, x) => match right {
-            Expr::Call(b, g, y) => {
-                same_span(*a, *b) && same_text(f, g) && all_same(x.as_slice(), y.as_slice())
-            }
-            _ => false,
-        },
-        Expr::Method(a, x, f, xs) => match right {
-            Expr::Method(b, y, g, ys) => {
-                same_span(*a, *b)
-                    && same_text(f, g)
-                    && same(x.get(), y.get())
-                    && all_same(xs.as_slice(), ys.as_slice())
-            }
-            _ => false,
-        },
-        Expr::Many(a, x) => match right {
-            Expr::Many(b, y) => same_span(*a, *b) && all_same(x.as_slice(), y.as_slice()),
-            _ => false,
-        },
-        Expr::Not(a, x) => match right {
-            Expr::Not(b, y) => same_span(*a, *b) && same(x.get(), y.get()),
-            _ => false,
-        },
-        Expr::Neg(a, x) => match right {
-            Expr::Neg(b, y) => same_span(*a, *b) && same(x.get(), y.get()),
-            _ => false,
-        },
-        Expr::Two(a, f, x, v) => match right {
-            Expr::Two(b, g, y, w) => {
-                same_span(*a, *b)
-                    && same_op(*f, *g)
-                    && same(x.get(), y.get())
-                    && same(v.get(), w.get())
-            }
-            _ => false,
-        },
-        Expr::Pick(a, x, p, s) => match right {
-            Expr::Pick(b, y, q, t) => {
-                same_span(*a, *b)
-                    && same(x.get(), y.get())
-                    && same(p.get(), q.get())
-                    && same(s.get(), t.get())
-            }
-            _ => false,
-        },
+    match (left, right) {
+        (Expr::Bool(a, x), Expr::Bool(b, y)) => same_span(*a, *b) && *x == *y,
+        (Expr::Int(a, x), Expr::Int(b, y)) => same_span(*a, *b) && *x == *y,
+        (Expr::Str(a, x), Expr::Str(b, y)) => same_span(*a, *b) && same_text(x, y),
+        (Expr::Name(a, x), Expr::Name(b, y)) => same_span(*a, *b) && same_text(x, y),
+        (Expr::Select(a, x, f), Expr::Select(b, y, g)) => {
+            same_span(*a, *b) && same_text(f, g) && same(x.get(), y.get())
+        }
+        (Expr::Call(a, f, x), Expr::Call(b, g, y)) => {
+            same_span(*a, *b) && same_text(f, g) && all_same(x.as_slice(), y.as_slice())
+        }
+        (Expr::Method(a, x, f, xs), Expr::Method(b, y, g, ys)) => {
+            same_span(*a, *b)
+                && same_text(f, g)
+                && same(x.get(), y.get())
+                && all_same(xs.as_slice(), ys.as_slice())
+        }
+        (Expr::Many(a, x), Expr::Many(b, y)) => {
+            same_span(*a, *b) && all_same(x.as_slice(), y.as_slice())
+        }
+        (Expr::Not(a, x), Expr::Not(b, y)) => same_span(*a, *b) && same(x.get(), y.get()),
+        (Expr::Neg(a, x), Expr::Neg(b, y)) => same_span(*a, *b) && same(x.get(), y.get()),
+        (Expr::Two(a, f, x, v), Expr::Two(b, g, y, w)) => {
+            same_span(*a, *b) && same_op(*f, *g) && same(x.get(), y.get()) && same(v.get(), w.get())
+        }
+        (Expr::Pick(a, x, p, s), Expr::Pick(b, y, q, t)) => {
+            same_span(*a, *b)
+                && same(x.get(), y.get())
+                && same(p.get(), q.get())
+                && same(s.get(), t.get())
+        }
+        _ => false,
     }
 }
 
