@@ -4,7 +4,7 @@ use Rattle.std.proofs.lemmas.List.{take_rest}
 use Rattle.std.proofs.Math.ListN.{drop_of_length-le}
 use Rattle.cel_tree.specs.declared.tree.Span.{Span}
 use Rattle.cel_tree.specs.declared.tree.Op.{Op}
-use Rattle.cel_tree.specs.declared.tree.Expr.{Expr, roll-Expr, ind-Expr, map-Expr, fold-Expr}
+use Rattle.cel_tree.specs.declared.tree.Expr.{Expr, roll-Expr, ind-Expr, map-Expr}
 use Rattle.cel_tree.specs.declared.tree.Expr.TheOpen.{Expr-F}
 use Rattle.cel_tree.specs.declared.tree.Expr.TheVariants as tree
 use Rattle.cel_tree.specs.declared.tree.Expr.TheVariants.{rolls-Bool, rolls-Int, rolls-Str, rolls-Name, rolls-Select, rolls-Call, rolls-Method, rolls-Many, rolls-Not, rolls-Neg, rolls-Two, rolls-Pick}
@@ -12,7 +12,6 @@ use Rattle.cel_token.specs.declared.sign.Sign.{Sign}
 use Rattle.cel_token.specs.declared.sign.Sign.TheVariants as sign
 use Rattle.cel_token.specs.declared.token.Kind.TheVariants as kind
 use Rattle.cel_token.specs.Spelling.{spelling}
-use Rattle.cel_grammar.specs.declared.level.Level.{Level}
 use Rattle.cel_grammar.specs.declared.level.Level.TheVariants.{Or, And, Rel, Add, Mul}
 use Rattle.cel_grammar.specs.declared.level.Sort.{Sort}
 use Rattle.cel_grammar.specs.declared.level.Sort.TheVariants.{Whole, Binary, Unary, Nots, Negs, Member, Primary}
@@ -30,6 +29,9 @@ on_ok (Err e) x y z h f = tt
 pub bytes-append : (ps qs : List Piece) → bytes_of (ps ++ qs) ≡ bytes_of ps ++ bytes_of qs
 bytes-append [] qs = refl
 bytes-append (p ∷ ps) qs = ap (λ (z : List ℕ). piece_text p ++ z) (bytes-append ps qs) ∙ sym (append_assoc (piece_text p) (bytes_of ps) (bytes_of qs))
+
+pub joined_bytes : (ps qs : List Piece) (old : List ℕ) → (old ++ bytes_of ps) ++ bytes_of qs ≡ old ++ bytes_of (ps ++ qs)
+joined_bytes ps qs old = append_assoc old (bytes_of ps) (bytes_of qs) ∙ ap (λ (z : List ℕ). old ++ z) (sym (bytes-append ps qs))
 
 -- the bytes at one layer
 bytes_at : (e : Expr) (w : Writing) (s : Sort) (m : Bool) → shown e ≡ w → bytes_of (shown e s m) ≡ bytes_of (w s m)
@@ -49,33 +51,32 @@ select_bytes e a p x is m old =
     ∙ append_assoc old (bytes_of (shown a Member m)) (spelling sign.Dot ++ x)
     ∙ ap (λ (z : List ℕ). old ++ (bytes_of (shown a Member m) ++ (spelling sign.Dot ++ z))) (sym (append-nil x)) ∙ ap (λ (z : List ℕ). old ++ z) (sym l)
 
-pub call_bytes : (e : Expr) (p : Span) (x : List ℕ) (es : List Expr) → e ≡ tree.Call p x es → (m : Bool) (old : List ℕ)
-    → (((old ++ x) ++ spelling sign.OpenParenthesis) ++ bytes_of (separated (map shown es))) ++ spelling sign.CloseParenthesis ≡ old ++ bytes_of (shown e Whole m)
-call_bytes e p x es is m old =
+-- a name and its arguments
+abbrev pub called : List ℕ → List Expr → List Piece
+called x es = Word (kind.Name x) ∷ signed sign.OpenParenthesis ∷ closed_by sign.CloseParenthesis (map shown es)
+
+pub called_bytes : (x : List ℕ) (es : List Expr) (old : List ℕ)
+    → (((old ++ x) ++ spelling sign.OpenParenthesis) ++ bytes_of (separated (map shown es))) ++ spelling sign.CloseParenthesis ≡ old ++ bytes_of (called x es)
+called_bytes x es old =
     let b = bytes_of (separated (map shown es)) in
-    let l : bytes_of (shown e Whole m) ≡ x ++ (spelling sign.OpenParenthesis ++ (b ++ (spelling sign.CloseParenthesis ++ []))) =
-    ap (λ (z : Expr). bytes_of (shown z Whole m)) is ∙ bytes_at (tree.Call p x es) _ Whole m (fold_call layer_shown p x es)
-    ∙ ap (λ (z : List ℕ). x ++ (spelling sign.OpenParenthesis ++ z)) (closed_bytes sign.CloseParenthesis (map shown es)) in
     append_assoc ((old ++ x) ++ spelling sign.OpenParenthesis) b (spelling sign.CloseParenthesis)
     ∙ append_assoc (old ++ x) (spelling sign.OpenParenthesis) (b ++ spelling sign.CloseParenthesis)
     ∙ append_assoc old x (spelling sign.OpenParenthesis ++ (b ++ spelling sign.CloseParenthesis))
-    ∙ ap (λ (z : List ℕ). old ++ z) (sym l)
+    ∙ ap (λ (z : List ℕ). old ++ (x ++ (spelling sign.OpenParenthesis ++ z))) (sym (closed_bytes sign.CloseParenthesis (map shown es)))
+
+pub call_bytes : (e : Expr) (p : Span) (x : List ℕ) (es : List Expr) → e ≡ tree.Call p x es → (m : Bool) (old : List ℕ) → old ++ bytes_of (called x es) ≡ old ++ bytes_of (shown e Whole m)
+call_bytes e p x es is m old =
+    ap (λ (z : List ℕ). old ++ z) (sym (ap (λ (z : Expr). bytes_of (shown z Whole m)) is ∙ bytes_at (tree.Call p x es) _ Whole m (fold_call layer_shown p x es)))
 
 pub method_bytes : (e a : Expr) (p : Span) (x : List ℕ) (es : List Expr) → e ≡ tree.Method p a x es → (m : Bool) (old : List ℕ)
-    → (((((old ++ bytes_of (shown a Member m)) ++ spelling sign.Dot) ++ x) ++ spelling sign.OpenParenthesis) ++ bytes_of (separated (map shown es))) ++ spelling sign.CloseParenthesis
-    ≡ old ++ bytes_of (shown e Whole m)
+    → ((old ++ bytes_of (shown a Member m)) ++ spelling sign.Dot) ++ bytes_of (called x es) ≡ old ++ bytes_of (shown e Whole m)
 method_bytes e a p x es is m old =
-    let b = bytes_of (separated (map shown es)) in
     let r = bytes_of (shown a Member m) in
-    let l : bytes_of (shown e Whole m) ≡ r ++ (spelling sign.Dot ++ (x ++ (spelling sign.OpenParenthesis ++ (b ++ (spelling sign.CloseParenthesis ++ []))))) =
+    let l : bytes_of (shown e Whole m) ≡ r ++ (spelling sign.Dot ++ bytes_of (called x es)) =
     ap (λ (z : Expr). bytes_of (shown z Whole m)) is ∙ bytes_at (tree.Method p a x es) _ Whole m (fold_method layer_shown p a x es)
-    ∙ bytes-append (shown a Member m) (signed sign.Dot ∷ Word (kind.Name x) ∷ signed sign.OpenParenthesis ∷ closed_by sign.CloseParenthesis (map shown es))
-    ∙ ap (λ (z : List ℕ). r ++ (spelling sign.Dot ++ (x ++ (spelling sign.OpenParenthesis ++ z)))) (closed_bytes sign.CloseParenthesis (map shown es)) in
-    append_assoc ((((old ++ r) ++ spelling sign.Dot) ++ x) ++ spelling sign.OpenParenthesis) b (spelling sign.CloseParenthesis)
-    ∙ append_assoc (((old ++ r) ++ spelling sign.Dot) ++ x) (spelling sign.OpenParenthesis) (b ++ spelling sign.CloseParenthesis)
-    ∙ append_assoc ((old ++ r) ++ spelling sign.Dot) x (spelling sign.OpenParenthesis ++ (b ++ spelling sign.CloseParenthesis))
-    ∙ append_assoc (old ++ r) (spelling sign.Dot) (x ++ (spelling sign.OpenParenthesis ++ (b ++ spelling sign.CloseParenthesis)))
-    ∙ append_assoc old r (spelling sign.Dot ++ (x ++ (spelling sign.OpenParenthesis ++ (b ++ spelling sign.CloseParenthesis))))
+    ∙ bytes-append (shown a Member m) (signed sign.Dot ∷ called x es) in
+    append_assoc (old ++ r) (spelling sign.Dot) (bytes_of (called x es))
+    ∙ append_assoc old r (spelling sign.Dot ++ bytes_of (called x es))
     ∙ ap (λ (z : List ℕ). old ++ z) (sym l)
 
 pub many_bytes : (e : Expr) (p : Span) (es : List Expr) → e ≡ tree.Many p es → (m : Bool) (old : List ℕ)
@@ -89,30 +90,29 @@ many_bytes e p es is m old =
     ∙ append_assoc old (spelling sign.OpenBracket) (b ++ spelling sign.CloseBracket)
     ∙ ap (λ (z : List ℕ). old ++ z) (sym l)
 
-pub not_bytes : (e a : Expr) (p : Span) → e ≡ tree.Not p a → (m : Bool) (old : List ℕ) → (old ++ spelling sign.Bang) ++ bytes_of (shown a Nots false) ≡ old ++ bytes_of (shown e Whole m)
-not_bytes e a p is m old =
-    append_assoc old (spelling sign.Bang) (bytes_of (shown a Nots false))
-    ∙ ap (λ (z : List ℕ). old ++ z) (sym (ap (λ (z : Expr). bytes_of (shown z Whole m)) is ∙ bytes_at (tree.Not p a) _ Whole m (fold_not layer_shown p a)))
+pub prefixed_bytes : (x : Sign) (ps : List Piece) (old : List ℕ) → (old ++ spelling x) ++ bytes_of ps ≡ old ++ bytes_of (signed x ∷ ps)
+prefixed_bytes x ps old = append_assoc old (spelling x) (bytes_of ps)
 
-pub neg_bytes : (e a : Expr) (p : Span) → e ≡ tree.Neg p a → (m : Bool) (old : List ℕ) → (old ++ spelling sign.Minus) ++ bytes_of (shown a Negs true) ≡ old ++ bytes_of (shown e Whole m)
+pub not_bytes : (e a : Expr) (p : Span) → e ≡ tree.Not p a → (m : Bool) (old : List ℕ) → old ++ bytes_of (signed sign.Bang ∷ shown a Nots false) ≡ old ++ bytes_of (shown e Whole m)
+not_bytes e a p is m old =
+    ap (λ (z : List ℕ). old ++ z) (sym (ap (λ (z : Expr). bytes_of (shown z Whole m)) is ∙ bytes_at (tree.Not p a) _ Whole m (fold_not layer_shown p a)))
+
+pub neg_bytes : (e a : Expr) (p : Span) → e ≡ tree.Neg p a → (m : Bool) (old : List ℕ) → old ++ bytes_of (signed sign.Minus ∷ shown a Negs true) ≡ old ++ bytes_of (shown e Whole m)
 neg_bytes e a p is m old =
-    append_assoc old (spelling sign.Minus) (bytes_of (shown a Negs true))
-    ∙ ap (λ (z : List ℕ). old ++ z) (sym (ap (λ (z : Expr). bytes_of (shown z Whole m)) is ∙ bytes_at (tree.Neg p a) _ Whole m (fold_neg layer_shown p a)))
+    ap (λ (z : List ℕ). old ++ z) (sym (ap (λ (z : Expr). bytes_of (shown z Whole m)) is ∙ bytes_at (tree.Neg p a) _ Whole m (fold_neg layer_shown p a)))
 
 -- a sign with a blank on both sides
 abbrev pub blanked : Sign → List ℕ
 blanked x = 32 ∷ (spelling x ++ 32 ∷ [])
 
-spaced_bytes : (x : Sign) (ps qs : List Piece) (old : List ℕ) → ((old ++ bytes_of ps) ++ blanked x) ++ bytes_of qs ≡ old ++ bytes_of (ps ++ spaced x qs)
-spaced_bytes x ps qs old =
-    append_assoc (old ++ bytes_of ps) (blanked x) (bytes_of qs) ∙ append_assoc old (bytes_of ps) (blanked x ++ bytes_of qs)
-    ∙ ap (λ (z : List ℕ). old ++ (bytes_of ps ++ (32 ∷ z))) (append_assoc (spelling x) (32 ∷ []) (bytes_of qs))
-    ∙ ap (λ (z : List ℕ). old ++ z) (sym (bytes-append ps (spaced x qs)))
+pub spaced_bytes : (x : Sign) (ps : List Piece) (old : List ℕ) → (old ++ blanked x) ++ bytes_of ps ≡ old ++ bytes_of (spaced x ps)
+spaced_bytes x ps old =
+    append_assoc old (blanked x) (bytes_of ps) ∙ ap (λ (z : List ℕ). old ++ (32 ∷ z)) (append_assoc (spelling x) (32 ∷ []) (bytes_of ps))
 
 pub two_bytes : (e a b : Expr) (p : Span) (o : Op) → e ≡ tree.Two p o a b → (m : Bool) (old : List ℕ)
-    → ((old ++ bytes_of (shown a (Binary (level_of o)) false)) ++ blanked (sign_of o)) ++ bytes_of (shown b (operand (level_of o)) false) ≡ old ++ bytes_of (shown e Whole m)
+    → (old ++ bytes_of (shown a (Binary (level_of o)) false)) ++ bytes_of (spaced (sign_of o) (shown b (operand (level_of o)) false)) ≡ old ++ bytes_of (shown e Whole m)
 two_bytes e a b p o is m old =
-    spaced_bytes (sign_of o) (shown a (Binary (level_of o)) false) (shown b (operand (level_of o)) false) old
+    joined_bytes (shown a (Binary (level_of o)) false) (spaced (sign_of o) (shown b (operand (level_of o)) false)) old
     ∙ ap (λ (z : List ℕ). old ++ z) (sym (ap (λ (z : Expr). bytes_of (shown z Whole m)) is ∙ bytes_at (tree.Two p o a b) _ Whole m (fold_two layer_shown p o a b)
     ∙ ap (λ v. bytes_of (cond v (inner) (bracketed inner))) (level_in_whole (level_of o))))
   where
@@ -120,11 +120,10 @@ two_bytes e a b p o is m old =
     inner = shown a (Binary (level_of o)) false ++ spaced (sign_of o) (shown b (operand (level_of o)) false)
 
 pub pick_bytes : (e c a b : Expr) (p : Span) → e ≡ tree.Pick p c a b → (m : Bool) (old : List ℕ)
-    → ((((old ++ bytes_of (shown c (Binary Or) false)) ++ blanked sign.Question) ++ bytes_of (shown a (Binary Or) false)) ++ blanked sign.Colon) ++ bytes_of (shown b Whole false)
-    ≡ old ++ bytes_of (shown e Whole m)
+    → ((old ++ bytes_of (shown c (Binary Or) false)) ++ bytes_of (spaced sign.Question (shown a (Binary Or) false))) ++ bytes_of (spaced sign.Colon (shown b Whole false)) ≡ old ++ bytes_of (shown e Whole m)
 pick_bytes e c a b p is m old =
-    spaced_bytes sign.Colon (shown a (Binary Or) false) (shown b Whole false) ((old ++ bytes_of (shown c (Binary Or) false)) ++ blanked sign.Question)
-    ∙ spaced_bytes sign.Question (shown c (Binary Or) false) (shown a (Binary Or) false ++ spaced sign.Colon (shown b Whole false)) old
+    joined_bytes (spaced sign.Question (shown a (Binary Or) false)) (spaced sign.Colon (shown b Whole false)) (old ++ bytes_of (shown c (Binary Or) false))
+    ∙ joined_bytes (shown c (Binary Or) false) (spaced sign.Question (shown a (Binary Or) false ++ spaced sign.Colon (shown b Whole false))) old
     ∙ ap (λ (z : List ℕ). old ++ z) (sym (ap (λ (z : Expr). bytes_of (shown z Whole m)) is ∙ bytes_at (tree.Pick p c a b) _ Whole m (fold_pick layer_shown p c a b)))
 
 -- lists

@@ -1,6 +1,8 @@
-ghost use Rattle.std.specs.Prelude.{◌≡◌, ◌++◌, IfOk, OnOk, map};
+ghost use Rattle.std.specs.Prelude.{◌≡◌, ◌∷◌, ◌++◌, IfOk, OnOk, map, false};
+ghost use Rattle.cel_token.specs.declared.sign.Sign.TheVariants.{OpenParenthesis, CloseParenthesis};
+ghost use Rattle.cel_token.specs.declared.token.Kind.TheVariants.{Name};
 ghost use Rattle.cel_grammar.specs.declared.level.Sort.TheVariants.{Whole};
-ghost use Rattle.cel_shown.specs.Shown.{shown, written, number, separated};
+ghost use Rattle.cel_shown.specs.Shown.{Word, signed, shown, written, number, separated, closed_by, spaced};
 ghost use Rattle.cel_shown.specs.Spelled.{bytes_of};
 
 use crate::printer::Printer;
@@ -64,47 +66,67 @@ fn bare(out: &mut Printer, expr: &Expr, after_minus: bool) -> Result<(), OutOfMe
             out.sign(Sign::Dot)?;
             out.put(field.as_str())
         }
-        Expr::Call(_, name, arguments) => {
-            out.put(name.as_str())?;
-            out.sign(Sign::OpenParenthesis)?;
-            list(out, arguments.as_slice())?;
-            out.sign(Sign::CloseParenthesis)
-        }
+        Expr::Call(_, name, arguments) => call(out, name.as_str(), arguments.as_slice()),
         Expr::Method(_, operand, name, arguments) => {
             write(out, operand.get(), Sort::Member, after_minus)?;
             out.sign(Sign::Dot)?;
-            out.put(name.as_str())?;
-            out.sign(Sign::OpenParenthesis)?;
-            list(out, arguments.as_slice())?;
-            out.sign(Sign::CloseParenthesis)
+            call(out, name.as_str(), arguments.as_slice())
         }
         Expr::Many(_, items) => {
             out.sign(Sign::OpenBracket)?;
             list(out, items.as_slice())?;
             out.sign(Sign::CloseBracket)
         }
-        Expr::Not(_, operand) => {
-            out.sign(Sign::Bang)?;
-            write(out, operand.get(), Sort::Nots, false)
-        }
-        Expr::Neg(_, operand) => {
-            out.sign(Sign::Minus)?;
-            write(out, operand.get(), Sort::Negs, true)
-        }
+        Expr::Not(_, operand) => prefixed(out, Sign::Bang, operand.get(), Sort::Nots, false),
+        Expr::Neg(_, operand) => prefixed(out, Sign::Minus, operand.get(), Sort::Negs, true),
         Expr::Two(_, op, left, right) => {
             let level = level_of(*op);
             write(out, left.get(), Sort::Binary(level), false)?;
-            out.spaced(sign_of(*op))?;
-            write(out, right.get(), operand(level), false)
+            appended(out, sign_of(*op), right.get(), operand(level))
         }
         Expr::Pick(_, condition, if_true, if_false) => {
             write(out, condition.get(), Sort::Binary(Level::Or), false)?;
-            out.spaced(Sign::Question)?;
-            write(out, if_true.get(), Sort::Binary(Level::Or), false)?;
-            out.spaced(Sign::Colon)?;
-            write(out, if_false.get(), Sort::Whole, false)
+            appended(out, Sign::Question, if_true.get(), Sort::Binary(Level::Or))?;
+            appended(out, Sign::Colon, if_false.get(), Sort::Whole)
         }
     }
+}
+
+// A sign and, directly behind it, an operand.
+#[cycle(write)]
+fn prefixed(
+    out: &mut Printer,
+    sign: Sign,
+    operand: &Expr,
+    place: Sort,
+    after_minus: bool,
+) -> Result<(), OutOfMemory>
+    ensures { OnOk result (out.new ≡ out.old ++ bytes_of (signed sign ∷ shown operand.now place after_minus)) }
+{
+    out.sign(sign)?;
+    write(out, operand, place, after_minus)
+}
+
+// A sign with a blank on both sides, and an operand behind it.
+#[cycle(write)]
+fn appended(out: &mut Printer, sign: Sign, operand: &Expr, place: Sort) -> Result<(), OutOfMemory>
+    ensures { OnOk result (out.new ≡ out.old ++ bytes_of (spaced sign (shown operand.now place false))) }
+{
+    out.spaced(sign)?;
+    write(out, operand, place, false)
+}
+
+// `name(arguments)`
+#[cycle(write)]
+fn call(out: &mut Printer, name: &str, arguments: &[Expr]) -> Result<(), OutOfMemory>
+    ensures { OnOk result (out.new ≡ out.old
+        ++ bytes_of (Word (Name name.now) ∷ signed OpenParenthesis
+        ∷ closed_by CloseParenthesis (map shown arguments.now))) }
+{
+    out.put(name)?;
+    out.sign(Sign::OpenParenthesis)?;
+    list(out, arguments)?;
+    out.sign(Sign::CloseParenthesis)
 }
 
 // With a comma and a blank between.

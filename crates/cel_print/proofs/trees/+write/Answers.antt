@@ -1,8 +1,8 @@
 use Rattle.std.proofs.Common.{◌≡◌, ◌-◌, length, take, drop, false, true, sym, ap, ◌∙◌}
-use Rattle.cel_shown.specs.Shown.{within}
+use Rattle.cel_shown.specs.Shown.{within, shown}
 use Rattle.cel_print.specs.Own.{own}
 use Rattle.cel_print.proofs.Bytes.{places, list_begins, list_goes_on, list_ends}
-use Rattle.cel_print.proofs.Arms.{select_arm, call_arm, method_arm, many_arm, not_arm, neg_arm, two_arm, pick_arm, bracket_arm, bare_arm}
+use Rattle.cel_print.proofs.Arms.{select_arm, call_arm, method_arm, many_arm, not_arm, neg_arm, two_arm, pick_arm, bracket_arm, bare_arm, call_part, prefixed_part, appended_part}
 use Rattle.cel_print.proofs.trees.+write.Goals as goal
 
 pub bare-returns-in_ok-sign-in-Select : goal.bare-returns-in_ok-sign-in-Select
@@ -10,45 +10,51 @@ bare-returns-in_ok-sign-in-Select t c =
     select_arm c.put-in-Select.result c.args.expr.now c.args.after_minus c.args.out.now c.put-in-Select.new.self _ c.get.result.now _ _ c.as_str-in-Select.result.now c.write.new.out c.sign.new.self
     c.in-Select.is c.get.ensures c.in_ok-write-in-Select.ensures c.in_ok-sign-in-Select.ensures c.as_str-in-Select.ensures.value c.put-in-Select.ensures
 
-pub bare-returns-in_ok-list-in-Call : goal.bare-returns-in_ok-list-in-Call
-bare-returns-in_ok-list-in-Call t c =
-    call_arm c.sign-in-Call-2.result c.args.expr.now c.args.after_minus c.args.out.now c.sign-in-Call-2.new.self _ _ c.as_str-in-Call.result.now _ c.as_slice.result.now c.put-in-Call.new.self c.sign-in-Call.new.self c.list.new.out
-    c.in-Call.is c.as_str-in-Call.ensures.value c.in_ok-put-in-Call.ensures c.in_ok-sign-in-Call.ensures c.as_slice.ensures c.in_ok-list-in-Call.ensures c.sign-in-Call-2.ensures
+pub bare-returns-in-Call : goal.bare-returns-in-Call
+bare-returns-in-Call t c =
+    call_arm c.call.result c.args.expr.now c.args.after_minus c.args.out.now c.call.new.out _ _ c.as_str-in-Call.result.now _ c.as_slice.result.now
+    c.in-Call.is c.as_str-in-Call.ensures.value c.as_slice.ensures c.call.ensures
 
-pub bare-returns-in_ok-list-in-Method : goal.bare-returns-in_ok-list-in-Method
-bare-returns-in_ok-list-in-Method t c =
-    method_arm c.sign-in-Method-3.result c.args.expr.now c.args.after_minus c.args.out.now c.sign-in-Method-3.new.self _ c.get-in-Method.result.now _ _ c.as_str-in-Method.result.now _ c.as_slice-in-Method.result.now
-    c.write-in-Method.new.out c.sign-in-Method.new.self c.put-in-Method.new.self c.sign-in-Method-2.new.self c.list-in-Method.new.out
-    c.in-Method.is c.get-in-Method.ensures c.in_ok-write-in-Method.ensures c.in_ok-sign-in-Method.ensures c.as_str-in-Method.ensures.value c.in_ok-put-in-Method.ensures c.in_ok-sign-in-Method-2.ensures
-    c.as_slice-in-Method.ensures c.in_ok-list-in-Method.ensures c.sign-in-Method-3.ensures
+pub bare-returns-in_ok-sign-in-Method : goal.bare-returns-in_ok-sign-in-Method
+bare-returns-in_ok-sign-in-Method t c =
+    method_arm c.call-in-Method.result c.args.expr.now c.args.after_minus c.args.out.now c.call-in-Method.new.out _ c.get-in-Method.result.now _ _ c.as_str-in-Method.result.now _ c.as_slice-in-Method.result.now
+    c.write-in-Method.new.out c.sign-in-Method.new.self
+    c.in-Method.is c.get-in-Method.ensures c.in_ok-write-in-Method.ensures c.in_ok-sign-in-Method.ensures c.as_str-in-Method.ensures.value c.as_slice-in-Method.ensures c.call-in-Method.ensures
 
 pub bare-returns-in_ok-list-in-Many : goal.bare-returns-in_ok-list-in-Many
 bare-returns-in_ok-list-in-Many t c =
-    many_arm c.sign-in-Many-2.result c.args.expr.now c.args.after_minus c.args.out.now c.sign-in-Many-2.new.self _ _ c.as_slice-in-Many.result.now c.sign-in-Many.new.self c.list-in-Many.new.out
+    many_arm c.sign-in-Many-2.result c.args.expr.now c.args.after_minus c.args.out.now c.sign-in-Many-2.new.self _ _ c.as_slice-in-Many.result.now c.sign-in-Many.new.self c.list.new.out
     c.in-Many.is c.in_ok-sign-in-Many.ensures c.as_slice-in-Many.ensures c.in_ok-list-in-Many.ensures c.sign-in-Many-2.ensures
 
-pub bare-returns-in_ok-sign-in-Not : goal.bare-returns-in_ok-sign-in-Not
-bare-returns-in_ok-sign-in-Not t c =
-    not_arm c.write-in-Not.result c.args.expr.now c.args.after_minus c.args.out.now c.write-in-Not.new.out _ c.get-in-Not.result.now _ c.sign-in-Not.new.self
-    c.in-Not.is c.in_ok-sign-in-Not.ensures c.get-in-Not.ensures c.write-in-Not.ensures
+pub bare-returns-in-Not : goal.bare-returns-in-Not
+bare-returns-in-Not t c =
+    not_arm c.prefixed.result c.args.expr.now c.args.after_minus c.args.out.now c.prefixed.new.out _ c.get-in-Not.result.now _ c.in-Not.is c.get-in-Not.ensures c.prefixed.ensures
 
-pub bare-returns-in_ok-sign-in-Neg : goal.bare-returns-in_ok-sign-in-Neg
-bare-returns-in_ok-sign-in-Neg t c =
-    neg_arm c.write-in-Neg.result c.args.expr.now c.args.after_minus c.args.out.now c.write-in-Neg.new.out _ c.get-in-Neg.result.now _ c.sign-in-Neg.new.self
-    c.in-Neg.is c.in_ok-sign-in-Neg.ensures c.get-in-Neg.ensures c.write-in-Neg.ensures
+pub bare-returns-in-Neg : goal.bare-returns-in-Neg
+bare-returns-in-Neg t c =
+    neg_arm c.prefixed-in-Neg.result c.args.expr.now c.args.after_minus c.args.out.now c.prefixed-in-Neg.new.out _ c.get-in-Neg.result.now _ c.in-Neg.is c.get-in-Neg.ensures c.prefixed-in-Neg.ensures
 
-pub bare-returns-in_ok-spaced-in-Two : goal.bare-returns-in_ok-spaced-in-Two
-bare-returns-in_ok-spaced-in-Two t c =
-    two_arm c.write-in-Two-2.result c.args.expr.now c.args.after_minus c.args.out.now c.write-in-Two-2.new.out _ c.get-in-Two.result.now _ c.get-in-Two-2.result.now _ _ c.level_of-level.result c.sign_of.result c.operand.result
-    c.write-in-Two.new.out c.spaced.new.self c.in-Two.is c.level_of-level.ensures c.get-in-Two.ensures c.in_ok-write-in-Two.ensures c.sign_of.ensures c.in_ok-spaced-in-Two.ensures c.get-in-Two-2.ensures c.operand.ensures
-    c.write-in-Two-2.ensures
+pub bare-returns-in_ok-write-in-Two : goal.bare-returns-in_ok-write-in-Two
+bare-returns-in_ok-write-in-Two t c =
+    two_arm c.appended.result c.args.expr.now c.args.after_minus c.args.out.now c.appended.new.out _ c.get-in-Two.result.now _ c.get-in-Two-2.result.now _ _ c.level_of-level.result c.sign_of.result c.operand.result
+    c.write-in-Two.new.out c.in-Two.is c.level_of-level.ensures c.get-in-Two.ensures c.in_ok-write-in-Two.ensures c.sign_of.ensures c.get-in-Two-2.ensures c.operand.ensures c.appended.ensures
 
-pub bare-returns-in_ok-spaced-in-Pick-2 : goal.bare-returns-in_ok-spaced-in-Pick-2
-bare-returns-in_ok-spaced-in-Pick-2 t c =
-    pick_arm c.write-in-Pick-3.result c.args.expr.now c.args.after_minus c.args.out.now c.write-in-Pick-3.new.out _ c.get-in-Pick.result.now _ c.get-in-Pick-2.result.now _ c.get-in-Pick-3.result.now _
-    c.write-in-Pick.new.out c.spaced-in-Pick.new.self c.write-in-Pick-2.new.out c.spaced-in-Pick-2.new.self
-    c.in-Pick.is c.get-in-Pick.ensures c.in_ok-write-in-Pick.ensures c.in_ok-spaced-in-Pick.ensures c.get-in-Pick-2.ensures c.in_ok-write-in-Pick-2.ensures c.in_ok-spaced-in-Pick-2.ensures c.get-in-Pick-3.ensures
-    c.write-in-Pick-3.ensures
+pub bare-returns-in_ok-appended-in-Pick : goal.bare-returns-in_ok-appended-in-Pick
+bare-returns-in_ok-appended-in-Pick t c =
+    pick_arm c.appended-in-Pick-2.result c.args.expr.now c.args.after_minus c.args.out.now c.appended-in-Pick-2.new.out _ c.get-in-Pick.result.now _ c.get-in-Pick-2.result.now _ c.get-in-Pick-3.result.now _
+    c.write-in-Pick.new.out c.appended-in-Pick.new.out
+    c.in-Pick.is c.get-in-Pick.ensures c.in_ok-write-in-Pick.ensures c.get-in-Pick-2.ensures c.in_ok-appended-in-Pick.ensures c.get-in-Pick-3.ensures c.appended-in-Pick-2.ensures
+
+pub call-returns : goal.call-returns
+call-returns t c =
+    call_part c.sign-2.result c.args.out.now c.sign-2.new.self c.args.name.now c.args.arguments.now c.put.new.self c.sign.new.self c.list.new.out
+    c.in_ok-put.ensures c.in_ok-sign.ensures c.in_ok-list.ensures c.sign-2.ensures
+
+pub prefixed-returns : goal.prefixed-returns
+prefixed-returns t c = prefixed_part c.write.result c.args.out.now c.write.new.out c.args.sign (shown c.args.operand.now c.args.place c.args.after_minus) c.sign.new.self c.in_ok-sign.ensures c.write.ensures
+
+pub appended-returns : goal.appended-returns
+appended-returns t c = appended_part c.write.result c.args.out.now c.write.new.out c.args.sign (shown c.args.operand.now c.args.place false) c.spaced.new.self c.in_ok-spaced.ensures c.write.ensures
 
 pub write-returns : goal.write-returns
 write-returns t c =

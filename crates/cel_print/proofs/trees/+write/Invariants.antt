@@ -1,5 +1,4 @@
-use Rattle.std.proofs.Common.{◌≡◌, ◌+◌, ◌*◌, ◌++◌, drop, map}
-use Rattle.cel_tree.specs.Tree.{size, sizes}
+use Rattle.std.proofs.Common.{◌≡◌, ◌++◌, drop, map}
 use Rattle.cel_shown.specs.Shown.{shown, separated}
 use Rattle.cel_shown.specs.Spelled.{bytes_of}
 use Rattle.cel_print.proofs.Bytes.{followed}
