@@ -1,5 +1,4 @@
 // Bindings of policies.
-ghost use Rattle.std.specs.Prelude.{◌≡◌};
 ghost use Rattle.serde_json.specs.View.{view};
 ghost use Rattle.iam_json_data.specs.Reading.{Gives, present};
 ghost use Rattle.iam_json_data.specs.Readers.{ReadsAbsent};

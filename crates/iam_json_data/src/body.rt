@@ -1,5 +1,4 @@
 // A body as a value.
-ghost use Rattle.std.specs.Prelude.{◌≡◌};
 ghost use Rattle.iam_json_data.specs.Body.{BodyGives, ReadsWhole};
 
 use crate::stop::BodyStop;

@@ -13,6 +13,8 @@ mod names;
 mod print;
 mod shown;
 mod stop;
+#[cfg(test)]
+mod tests;
 
 pub use binding::read_absent;
 pub use body::read_body;

@@ -1,6 +1,5 @@
 // Names that members are read as.
 ghost use Rattle.std.specs.Prelude.{◌≡◌, [], MatchOption, Ok, Err};
-ghost use Rattle.iam_json_data.specs.Reading.{Gives};
 
 use crate::member::FromJson;
 use crate::stop::{BodyStop, bad_here};

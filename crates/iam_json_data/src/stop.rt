@@ -1,5 +1,5 @@
 // Why a body gives nothing.
-ghost use Rattle.std.specs.Prelude.{◌≡◌, ◌++◌, [], IfOk, string_bytes};
+ghost use Rattle.std.specs.Prelude.{◌≡◌, [], IfOk, string_bytes};
 ghost use Rattle.iam_json_data.specs.Path.{separator_before, under, item_name};
 ghost use Rattle.iam_json_data.specs.Stop.{MovesOut};
 
