@@ -1,3 +1,4 @@
 pub mod Alones
 pub mod Entries
+pub mod GoingOn
 pub mod Standing

@@ -23,9 +23,11 @@ use Rattle.iam_office.specs.declared.office.FloorStop.TheVariants.{Ahead}
 use Rattle.iam_office.specs.declared.office.Numbered.{Numbered}
 use Rattle.iam_office.specs.declared.office.WriteStop.{WriteStop}
 use Rattle.iam_office.specs.declared.office.WriteStop.TheVariants.{KeeperFault, OutOfMemory}
+use Rattle.iam_lone.specs.GoingOn.{Standing, behind}
 use Rattle.iam_lone.specs.Histories.{Histories}
-use Rattle.iam_lone.specs.Lone.{Alone, StandsAt, StandsFor, current, taken_up, IsShown, IsMade, IsUnmade, IsJudged}
+use Rattle.iam_lone.specs.Lone.{Alone, StandsAt, StandsFor, current, standing, taken_up, IsShown, IsMade, IsUnmade, IsJudged}
 use Rattle.iam_lone.proofs.Entries.{drop_whole, one_more_current}
+use Rattle.iam_lone.proofs.GoingOn.{same_entries, same_standing}
 
 number_after : (t : Tables) (h more : List Entry) → Number t (h ++ more) ≡ Number t h + length more
 number_after t h more = omega (arith, length-append h more)
@@ -115,25 +117,29 @@ stored_told laws now new e n formed admitted is at t h s =
     let shorter : first t (n - 1) (h ++ e ∷ []) ≡ h = take-append-le _ h (e ∷ []) (omega (arith, number, grown)) ∙ take_all _ h (omega (arith, number, grown)) in
     (omega (arith, number, grown), omega (arith, number), ap (λ k. admission (state t k) e) shorter ∙ judged, λ u. (refl, judged, number))
 
-made_told : Histories → (now new : Tables) (e : Entry) (result : Result (Numbered Answer) WriteStop) → IsEntry e → admission now e ≡ None → IsMade now new e result → Leads StandsAt now new (WriteTold true e result)
+made_told : Histories → (now new : Standing) (e : Entry) (result : Result (Numbered Answer) WriteStop) → IsEntry e → admission now.now e ≡ None → IsMade now new e result → Leads StandsAt now.now new.now (WriteTold true e result)
 unfolding IsShown
-made_told laws now new e (Ok a) formed admitted made = gains laws now new e _ formed admitted made.0 (accepted_told laws now new e a formed admitted made.0 made.1.0 made.1.1)
+made_told laws now new e (Ok a) formed admitted made =
+    let is = ap (λ (x : Standing). x.now) made.0 in
+    gains laws now.now new.now e _ formed admitted is (accepted_told laws now.now new.now e a formed admitted is made.1.0 made.1.1)
 made_told laws now new e (Err KeeperFault) formed admitted made = absurd made.1
-made_told laws now new e (Err (OutOfMemory (Some n))) formed admitted made = gains laws now new e _ formed admitted made.0 (stored_told laws now new e n formed admitted made.0 made.1)
+made_told laws now new e (Err (OutOfMemory (Some n))) formed admitted made =
+    let is = ap (λ (x : Standing). x.now) made.0 in
+    gains laws now.now new.now e _ formed admitted is (stored_told laws now.now new.now e n formed admitted is made.1)
 made_told laws now new e (Err (OutOfMemory None)) formed admitted made = absurd made.1
 
 -- a write that adds nothing, and stops
-unmade : (now new : Tables) (e : Entry) (result : Result (Numbered Answer) WriteStop) → new ≡ now → ((t : Tables) (h : List Entry) → StandsAt now t h → WriteTold true e result t h []) → Leads StandsAt now new (WriteTold true e result)
-unmade now new e result is told = subst (λ x. Leads StandsAt now x (WriteTold true e result)) (sym is) (stays now _ told)
+unmade : (now new : Standing) (e : Entry) (result : Result (Numbered Answer) WriteStop) → new ≡ now → ((t : Tables) (h : List Entry) → StandsAt now.now t h → WriteTold true e result t h []) → Leads StandsAt now.now new.now (WriteTold true e result)
+unmade now new e result is told = subst (λ (x : Standing). Leads StandsAt now.now x.now (WriteTold true e result)) (sym is) (stays now.now _ told)
 
-unmade_told : Histories → (now new : Tables) (e : Entry) (result : Result (Numbered Answer) WriteStop) → IsUnmade now new e result → Leads StandsAt now new (WriteTold true e result)
+unmade_told : Histories → (now new : Standing) (e : Entry) (result : Result (Numbered Answer) WriteStop) → IsUnmade now new e result → Leads StandsAt now.now new.now (WriteTold true e result)
 unfolding IsUnmade
-unmade_told laws now new e (Ok a) is = unmade now new e (Ok a) is.0 (refused_told laws now e a is.2.0 is.1 is.2.1 is.2.2)
+unmade_told laws now new e (Ok a) is = unmade now new e (Ok a) is.0 (refused_told laws now.now e a is.2.0 is.1 is.2.1 is.2.2)
 unmade_told laws now new e (Err KeeperFault) is = unmade now new e (Err KeeperFault) is (λ t h s u. refl)
 unmade_told laws now new e (Err (OutOfMemory (Some n))) is = absurd is
 unmade_told laws now new e (Err (OutOfMemory None)) is = unmade now new e (Err (OutOfMemory None)) is (λ t h s u. refl)
 
-pub judged_told : Histories → (now new : Tables) (e : Entry) (result : Result (Numbered Answer) WriteStop) → IsEntry e → IsJudged now new e result → Leads StandsAt now new (WriteTold true e result)
+pub judged_told : Histories → (now new : Standing) (e : Entry) (result : Result (Numbered Answer) WriteStop) → IsEntry e → IsJudged now new e result → Leads StandsAt now.now new.now (WriteTold true e result)
 unfolding IsJudged
 judged_told laws now new e result formed judged = elim judged [
   | inl is ↦ unmade_told laws now new e result is
@@ -146,27 +152,27 @@ judged_told laws now new e result formed judged = elim judged [
 abbrev pub CountsOne : Type 0
 CountsOne = (t : Tables) (command : Command) → accepts (written_answer t command) ≡ 1
 
-one_more : Histories → (now new : Tables) (e : Entry) → Good now → IsEntry e → admission now e ≡ None → new ≡ after now e → new.org.changes ≡ now.org.changes + 1
-one_more laws now new e good formed admitted is = ap (λ (x : Tables). x.org.changes) is ∙ laws.counted now (e ∷ []) (good, (formed, admitted, tt))
+one_more : Histories → (now new : Standing) (e : Entry) → Good now.now → IsEntry e → admission now.now e ≡ None → new ≡ behind now e → new.now.org.changes ≡ now.now.org.changes + 1
+one_more laws now new e good formed admitted is = ap (λ (x : Standing). x.now.org.changes) is ∙ laws.counted now.now (e ∷ []) (good, (formed, admitted, tt))
 
-made_counted : Histories → CountsOne → (now new : Tables) (e : Entry) (result : Result (Numbered Answer) WriteStop) → Good now → IsEntry e → admission now e ≡ None → IsMade now new e result → new.org.changes ≡ now.org.changes + accepted_by result
+made_counted : Histories → CountsOne → (now new : Standing) (e : Entry) (result : Result (Numbered Answer) WriteStop) → Good now.now → IsEntry e → admission now.now e ≡ None → IsMade now new e result → new.now.org.changes ≡ now.now.org.changes + accepted_by result
 unfolding IsShown
-made_counted laws one now new e (Ok a) good formed admitted made = omega (arith, one_more laws now new e good formed admitted made.0, ap accepts made.1.1 ∙ one new e.command)
+made_counted laws one now new e (Ok a) good formed admitted made = omega (arith, one_more laws now new e good formed admitted made.0, ap accepts made.1.1 ∙ one new.now e.command)
 made_counted laws one now new e (Err KeeperFault) good formed admitted made = absurd made.1
 made_counted laws one now new e (Err (OutOfMemory (Some n))) good formed admitted made = one_more laws now new e good formed admitted made.0
 made_counted laws one now new e (Err (OutOfMemory None)) good formed admitted made = absurd made.1
 
-nothing_more : (now new : Tables) → new ≡ now → new.org.changes ≡ now.org.changes + 0
-nothing_more now new is = omega (arith, ap (λ (x : Tables). x.org.changes) is)
+nothing_more : (now new : Standing) → new ≡ now → new.now.org.changes ≡ now.now.org.changes + 0
+nothing_more now new is = omega (arith, ap (λ (x : Standing). x.now.org.changes) is)
 
-unmade_counted : (now new : Tables) (e : Entry) (result : Result (Numbered Answer) WriteStop) → IsUnmade now new e result → new.org.changes ≡ now.org.changes + accepted_by result
+unmade_counted : (now new : Standing) (e : Entry) (result : Result (Numbered Answer) WriteStop) → IsUnmade now new e result → new.now.org.changes ≡ now.now.org.changes + accepted_by result
 unfolding IsUnmade
 unmade_counted now new e (Ok a) is = omega (arith, nothing_more now new is.0, ap accepts is.2.2)
 unmade_counted now new e (Err KeeperFault) is = nothing_more now new is
 unmade_counted now new e (Err (OutOfMemory (Some n))) is = absurd is
 unmade_counted now new e (Err (OutOfMemory None)) is = nothing_more now new is
 
-pub judged_counted : Histories → CountsOne → (now new : Tables) (e : Entry) (result : Result (Numbered Answer) WriteStop) → Good now → IsEntry e → IsJudged now new e result → new.org.changes ≡ now.org.changes + accepted_by result
+pub judged_counted : Histories → CountsOne → (now new : Standing) (e : Entry) (result : Result (Numbered Answer) WriteStop) → Good now.now → IsEntry e → IsJudged now new e result → new.now.org.changes ≡ now.now.org.changes + accepted_by result
 unfolding IsJudged
 judged_counted laws one now new e result good formed judged = elim judged [
   | inl is ↦ unmade_counted now new e result is
@@ -175,19 +181,19 @@ judged_counted laws one now new e result good formed judged = elim judged [
 
 -- ---- what comes of an entry, by its case
 
-pub as_made : (old new : Tables) (e : Entry) (result : Result (Numbered Answer) WriteStop) → admission old e ≡ None → new ≡ after old e → IsShown new e result → IsJudged old new e result
+pub as_made : (old new : Standing) (e : Entry) (result : Result (Numbered Answer) WriteStop) → admission old.now e ≡ None → new ≡ behind old e → IsShown new.now e result → IsJudged old new e result
 unfolding IsJudged
 as_made old new e result accepted is shown = inr (accepted, (is, shown))
 
-pub as_refused : (old new : Tables) (e : Entry) (number : ℕ) (refusal : Refusal) → new ≡ old → number ≡ old.org.changes → admission old e ≡ Some refusal → IsJudged old new e (Ok (record { number = number; value = Refused refusal }))
+pub as_refused : (old new : Standing) (e : Entry) (number : ℕ) (refusal : Refusal) → new ≡ old → number ≡ old.now.org.changes → admission old.now e ≡ Some refusal → IsJudged old new e (Ok (record { number = number; value = Refused refusal }))
 unfolding IsJudged IsUnmade
 as_refused old new e number refusal is at refused = inl (is, at, (refusal, refused, refl))
 
-pub as_failed : (old new : Tables) (e : Entry) → new ≡ old → IsJudged old new e (Err KeeperFault)
+pub as_failed : (old new : Standing) (e : Entry) → new ≡ old → IsJudged old new e (Err KeeperFault)
 unfolding IsJudged IsUnmade
 as_failed old new e is = inl is
 
-pub as_no_memory : (old new : Tables) (e : Entry) → new ≡ old → IsJudged old new e (Err (OutOfMemory None))
+pub as_no_memory : (old new : Standing) (e : Entry) → new ≡ old → IsJudged old new e (Err (OutOfMemory None))
 unfolding IsJudged IsUnmade
 as_no_memory old new e is = inl is
 
@@ -209,17 +215,19 @@ as_stored new e number at = at
 
 -- an entry is refused where none waits
 pub refused_here : {P : Type 0} (lone : Alone P) (e : Entry) (number : ℕ) (refusal : Refusal) → lone.taken ≡ length lone.entries → number ≡ lone.tables.org.changes → admission lone.tables e ≡ Some refusal →
-    IsJudged (current lone) (current lone) e (Ok (record { number = number; value = Refused refusal }))
+    IsJudged (standing lone) (standing lone) e (Ok (record { number = number; value = Refused refusal }))
 refused_here lone e number refusal whole at refused =
     let now : current lone ≡ lone.tables = ap (state lone.tables) (drop_whole lone.entries lone.taken whole) in
-    as_refused (current lone) (current lone) e number refusal refl (at ∙ ap (λ (t : Tables). t.org.changes) (sym now)) (ap (λ t. admission t e) now ∙ refused)
+    as_refused (standing lone) (standing lone) e number refusal refl (at ∙ ap (λ (t : Tables). t.org.changes) (sym now)) (ap (λ t. admission t e) now ∙ refused)
 
 -- an entry is kept where none waits
-pub made_here : {P : Type 0} (lone : Alone P) (new : Tables) (e : Entry) (result : Result (Numbered Answer) WriteStop) → lone.taken ≡ length lone.entries → admission lone.tables e ≡ None →
-    new ≡ state lone.tables (drop lone.taken (lone.entries ++ e ∷ [])) → IsShown new e result → IsJudged (current lone) new e result
-made_here lone new e result whole accepted is shown =
+pub made_here : {P : Type 0} (lone : Alone P) (entries : List Entry) (new : Standing) (e : Entry) (result : Result (Numbered Answer) WriteStop) → lone.taken ≡ length lone.entries → admission lone.tables e ≡ None →
+    entries ≡ lone.entries ++ e ∷ [] → new ≡ record { now = state lone.tables (drop lone.taken entries); entries = entries } → IsShown new.now e result → IsJudged (standing lone) new e result
+made_here lone entries new e result whole accepted one is shown =
     let now : current lone ≡ lone.tables = ap (state lone.tables) (drop_whole lone.entries lone.taken whole) in
-    as_made (current lone) new e result (ap (λ t. admission t e) now ∙ accepted) (is ∙ one_more_current lone.tables lone.entries lone.taken e whole ∙ ap (λ t. after t e) (sym now)) shown
+    as_made (standing lone) new e result (ap (λ t. admission t e) now ∙ accepted)
+    (is ∙ same_entries lone.tables lone.taken one ∙ same_standing (one_more_current lone.tables lone.entries lone.taken e whole ∙ ap (λ t. after t e) (sym now)) refl)
+    shown
 
 -- ---- over the office
 

@@ -1,3 +1,4 @@
+pub mod GoingOn
 pub mod Histories
 pub mod Lone
 pub mod Ran

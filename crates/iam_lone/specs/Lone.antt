@@ -7,12 +7,12 @@ use Rattle.iam_types.specs.declared.command.Entry.{Entry}
 use Rattle.iam_types.specs.declared.refusal.Refusal.{Refusal}
 use Rattle.iam_types.specs.declared.tables.Tables.{Tables}
 use Rattle.iam_model.specs.Admit.{admission}
-use Rattle.iam_model.specs.Apply.{after}
 use Rattle.iam_model.specs.History.{state, Legal}
 use Rattle.iam_answer.specs.Answer.{written_answer}
 use Rattle.iam_office.specs.declared.office.Numbered.{Numbered}
 use Rattle.iam_office.specs.declared.office.WriteStop.{WriteStop}
 use Rattle.iam_office.specs.declared.office.WriteStop.TheVariants.{KeeperFault, OutOfMemory}
+use Rattle.iam_lone.specs.GoingOn.{Standing, behind}
 
 -- The tables of the index, the keeper, the accepted entries in their order, and how many of them the index has taken up. An entry
 -- that is kept and not yet taken up waits.
@@ -58,7 +58,11 @@ StandsFor lone tables history = StandsAt (current lone) tables history
 pub lone_legal : {P : Type 0} (lone : Alone P) (tables : Tables) (history : List Entry) → StandsFor lone tables history → Legal tables history
 lone_legal lone tables history stands = stands.0
 
--- ---- what comes of a write, from tables to tables, the entry that waits being applied
+-- what an office has come to
+abbrev pub standing : {P : Type 0} → Alone P → Standing
+standing lone = record { now = current lone; entries = lone.entries }
+
+-- ---- what comes of a write
 
 -- the answer to an accepted entry in the tables after it, or there is no memory for it
 unfoldable pub IsShown : Tables → Entry → Result (Numbered Answer) WriteStop → Type 0
@@ -67,17 +71,17 @@ IsShown new entry (Err KeeperFault) = ⊥
 IsShown new entry (Err (OutOfMemory (Some number))) = number ≡ new.org.changes
 IsShown new entry (Err (OutOfMemory None)) = ⊥
 
--- the entry is kept and applied, and answered so
-abbrev pub IsMade : Tables → Tables → Entry → Result (Numbered Answer) WriteStop → Type 0
-IsMade old new entry result = (new ≡ after old entry) × IsShown new entry result
+-- the entry is kept, is the last of the entries, and is answered so
+abbrev pub IsMade : Standing → Standing → Entry → Result (Numbered Answer) WriteStop → Type 0
+IsMade old new entry result = (new ≡ behind old entry) × IsShown new.now entry result
 
 -- The entry is refused, or the keeper failed, or there is no memory to judge or to keep it, and nothing changed.
-unfoldable pub IsUnmade : Tables → Tables → Entry → Result (Numbered Answer) WriteStop → Type 0
-IsUnmade old new entry (Ok answer) = (new ≡ old) × (answer.number ≡ old.org.changes) × ((refusal : Refusal) × (admission old entry ≡ Some refusal) × (answer.value ≡ Refused refusal))
+unfoldable pub IsUnmade : Standing → Standing → Entry → Result (Numbered Answer) WriteStop → Type 0
+IsUnmade old new entry (Ok answer) = (new ≡ old) × (answer.number ≡ old.now.org.changes) × ((refusal : Refusal) × (admission old.now entry ≡ Some refusal) × (answer.value ≡ Refused refusal))
 IsUnmade old new entry (Err KeeperFault) = new ≡ old
 IsUnmade old new entry (Err (OutOfMemory (Some number))) = ⊥
 IsUnmade old new entry (Err (OutOfMemory None)) = new ≡ old
 
 -- what comes of an entry: it isn't made, or is accepted and made
-unfoldable pub IsJudged : Tables → Tables → Entry → Result (Numbered Answer) WriteStop → Type 0
-IsJudged old new entry result = IsUnmade old new entry result ⊎ ((admission old entry ≡ None) × IsMade old new entry result)
+unfoldable pub IsJudged : Standing → Standing → Entry → Result (Numbered Answer) WriteStop → Type 0
+IsJudged old new entry result = IsUnmade old new entry result ⊎ ((admission old.now entry ≡ None) × IsMade old new entry result)

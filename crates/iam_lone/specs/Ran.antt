@@ -7,7 +7,6 @@ use Rattle.iam_outer.specs.declared.talk.Step.{Step}
 use Rattle.iam_outer.specs.declared.talk.TalkEnd.{TalkEnd}
 use Rattle.iam_types.specs.declared.command.Entry.{Entry}
 use Rattle.iam_types.specs.declared.tables.Tables.{Tables}
-use Rattle.iam_model.specs.Good.{Good}
 use Rattle.iam_model.specs.History.{state, Legal}
 use Rattle.iam_wire.specs.Messages.{BeginsWith}
 use Rattle.iam_wire.specs.declared.message.Message.{Message}
@@ -33,6 +32,6 @@ pub record Ran (tables : Tables) (before now : Option (List ℕ)) (rows : Option
   pub closes : Closes end rest steps tail trace
   pub kept : KeepsTables rows (state tables history)
 
--- known rows are those of good tables
-abbrev pub IsKept : Option (List Row) → Type 0
-IsKept rows = (tables : Tables) × Good tables × KeepsTables rows tables
+-- known rows are those of the state that a legal history leads to, from these tables on
+abbrev pub KeptFrom : Tables → Option (List Row) → Type 0
+KeptFrom tables rows = (history : List Entry) × Legal tables history × KeepsTables rows (state tables history)

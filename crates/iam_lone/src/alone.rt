@@ -4,7 +4,7 @@ ghost use Rattle.iam_outer.specs.Causes.{Rose};
 ghost use Rattle.iam_outer.specs.Given.{AppendsMoments};
 ghost use Rattle.iam_office.specs.Talks.{Rise, all_keeper_faults, all_moments};
 ghost use Rattle.iam_rows.specs.Kept.{KeepsTables};
-ghost use Rattle.iam_lone.specs.Ran.{IsKept, Ran};
+ghost use Rattle.iam_lone.specs.Ran.{KeptFrom, Ran};
 
 use crate::lone::Lone;
 use iam_judge::Index;
@@ -21,7 +21,7 @@ fn talk<L: Line, C: Clock, P: Keeper>(
 ) -> Talk
     requires { office.old ≡ record { tables = office.old.tables; keeper = office.old.keeper; entries = []; taken = 0 } }
     ensures ran { IfSome (L.left line.old) (λ bytes. Ran office.old.tables (L.taken line.old) (L.taken line.new) (P.rows office.new.keeper) bytes result.end result.trace) }
-    ensures kept { IsKept (P.rows office.new.keeper) }
+    ensures kept { KeptFrom office.old.tables (P.rows office.new.keeper) }
     ensures faults { Rise (all_keeper_faults result.trace) (P.keeper_faults office.old.keeper) (P.keeper_faults office.new.keeper) }
     ensures same { P.same office.old.keeper office.new.keeper }
     ensures moments { AppendsMoments (C.given clock.old) (C.given clock.new) (all_moments result.trace) }
@@ -47,7 +47,7 @@ pub fn converse_alone<L: Line, C: Clock, P: Keeper>(
 ) -> Talk
     requires { KeepsTables (P.rows keeper.old) index }
     ensures ran { IfSome (L.left line.old) (λ bytes. Ran index (L.taken line.old) (L.taken line.new) (P.rows keeper.new) bytes result.end result.trace) }
-    ensures kept { IsKept (P.rows keeper.new) }
+    ensures kept { KeptFrom index (P.rows keeper.new) }
     ensures faults { Rise (all_keeper_faults result.trace) (P.keeper_faults keeper.old) (P.keeper_faults keeper.new) }
     ensures moments { AppendsMoments (C.given clock.old) (C.given clock.new) (all_moments result.trace) }
     ensures clock_fault { result.end ≡ TalkEnd.ClockFault → Rose (C.clock_faults clock.old) (C.clock_faults clock.new) }

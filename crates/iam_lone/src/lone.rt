@@ -8,7 +8,7 @@ ghost use Rattle.iam_model.specs.Good.{Good};
 ghost use Rattle.iam_outer.specs.Causes.{Rose};
 ghost use Rattle.iam_rows.specs.Kept.{KeepsTables};
 ghost use Rattle.iam_types.specs.declared.command.Entry.{Entry as AnEntry};
-ghost use Rattle.iam_lone.specs.Lone.{IsCounted, IsJudged, IsShown, StandsFor, current, lone_legal, taken_up, waiting};
+ghost use Rattle.iam_lone.specs.Lone.{IsCounted, IsJudged, IsShown, StandsFor, current, lone_legal, standing, taken_up, waiting};
 
 use crate::storing::{advance, answer_last, histories, let_go, store};
 use iam_admit::admit;
@@ -117,7 +117,7 @@ impl<P: Keeper> Lone<P> {
     fn finish(&mut self, alloc: Global) -> Result<Numbered<Answer>, WriteStop>
         requires { length self.old.entries ≡ self.old.taken + 1 }
         ensures told { (before : Items AnEntry) (last : AnEntry) → self.old.entries ≡ before ++ last ∷ [] → IsShown (current self.new) last result }
-        ensures current { current self.new ≡ current self.old }
+        ensures standing { standing self.new ≡ standing self.old }
         ensures keeper { self.new.keeper ≡ self.old.keeper }
     {
         self.keeps();
@@ -143,7 +143,7 @@ impl<P: Keeper> Lone<P> {
         requires accepted { admission self.old.tables entry ≡ None }
         requires changes { All IsChange changes.now }
         requires lead { LeadTo self.old.tables entry changes.now }
-        ensures told { IsJudged (current self.old) (current self.new) entry result }
+        ensures told { IsJudged (standing self.old) (standing self.new) entry result }
         ensures later { P.keeper_faults self.old.keeper ≤ P.keeper_faults self.new.keeper }
         ensures cause { IsErrOf result WriteStop.KeeperFault → Rose (P.keeper_faults self.old.keeper) (P.keeper_faults self.new.keeper) }
         ensures same { P.same self.old.keeper self.new.keeper }
@@ -160,7 +160,7 @@ impl<P: Keeper> Lone<P> {
     fn judge(&mut self, alloc: Global, entry: Entry) -> Result<Numbered<Answer>, WriteStop>
         requires taken { self.old.taken ≡ length self.old.entries }
         requires formed { IsEntry entry }
-        ensures told { IsJudged (current self.old) (current self.new) entry result }
+        ensures told { IsJudged (standing self.old) (standing self.new) entry result }
         ensures later { P.keeper_faults self.old.keeper ≤ P.keeper_faults self.new.keeper }
         ensures cause { IsErrOf result WriteStop.KeeperFault → Rose (P.keeper_faults self.old.keeper) (P.keeper_faults self.new.keeper) }
         ensures same { P.same self.old.keeper self.new.keeper }
@@ -184,7 +184,7 @@ impl<P: Keeper> Lone<P> {
     // Takes up the entry that waits, and judges one more.
     fn attempt(&mut self, alloc: Global, entry: Entry) -> Result<Numbered<Answer>, WriteStop>
         requires { IsEntry entry }
-        ensures told { IsJudged (current self.old) (current self.new) entry result }
+        ensures told { IsJudged (standing self.old) (standing self.new) entry result }
         ensures later { P.keeper_faults self.old.keeper ≤ P.keeper_faults self.new.keeper }
         ensures cause { IsErrOf result WriteStop.KeeperFault → Rose (P.keeper_faults self.old.keeper) (P.keeper_faults self.new.keeper) }
         ensures same { P.same self.old.keeper self.new.keeper }
@@ -200,6 +200,8 @@ impl<P: Keeper> Lone<P> {
 }
 
 impl<P: Keeper> Office for Lone<P> {
+    ghost use Rattle.iam_lone.specs.GoingOn.{GoesOn, goes_on_by_none, goes_onward};
+
     ghost stands = { StandsFor };
 
     ghost office_faults = { λ l. P.keeper_faults l.keeper };
@@ -208,11 +210,11 @@ impl<P: Keeper> Office for Lone<P> {
 
     ghost alone = { true };
 
-    ghost same = { λ a b. P.same a.keeper b.keeper };
+    ghost same = { λ a b. P.same a.keeper b.keeper × GoesOn (standing a) (standing b) };
 
-    ghost same_as_itself = { λ l. P.same_as_itself l.keeper };
+    ghost same_as_itself = { λ l. (P.same_as_itself l.keeper, goes_on_by_none (standing l)) };
 
-    ghost same_onward = { λ a b c. P.same_onward a.keeper b.keeper c.keeper };
+    ghost same_onward = { λ a b c ab bc. (P.same_onward a.keeper b.keeper c.keeper ab.0 bc.0, goes_onward (standing a) (standing b) (standing c) ab.1 bc.1) };
 
     ghost legal = { lone_legal };
 

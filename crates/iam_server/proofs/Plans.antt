@@ -1,6 +1,6 @@
 -- Words that give no plan, and the opening of words that give one.
-use Rattle.std.proofs.Common.{◌≡◌, ℕ, List, [], ◌∷◌, length, Some, None, Option, sym, subst, ◌∙◌}
-use Rattle.std.specs.Prelude.{IfSome, codes}
+use Rattle.std.proofs.Common.{◌≡◌, ℕ, List, [], ◌∷◌, length, Some, None, sym, subst, ◌∙◌}
+use Rattle.std.specs.Prelude.{codes}
 use Rattle.iam_types.specs.declared.tables.Opening.{Opening}
 use Rattle.iam_server.specs.Plan.{IsOpening as IsGiven, IsBehind, IsPlanOf, IsPlan}
 use Rattle.iam_server.specs.declared.plan.Plan.{Plan}

@@ -8,7 +8,7 @@ use Rattle.iam_outer.specs.declared.talk.TalkEnd.TheVariants as end
 use Rattle.iam_types.specs.declared.tables.Opening.{Opening}
 use Rattle.iam_types.specs.declared.tables.Tables.{Tables}
 use Rattle.iam_keeping.specs.Opened.{IsOpenedFrom, IsLoadFault, IsLeft}
-use Rattle.iam_lone.specs.Ran.{Ran}
+use Rattle.iam_lone.specs.Ran.{KeptFrom, Ran}
 use Rattle.iam_server.specs.declared.ends.Status.{Status}
 use Rattle.iam_server.specs.declared.ends.Status.TheVariants.{Done, Words, Rows, Keeper, ReadFault, WriteFault, ClockFault, Cut, Enough, BadFrame, OutOfMemory}
 
@@ -45,10 +45,12 @@ EndsUnopened opening before now BadFrame = ⊥
 abbrev pub TalkedFrom : Tables → Option (List Row) → Option (List ℕ) → Option (List ℕ) → List ℕ → Status → List Step → Type 0
 TalkedFrom tables rows before now input status trace = (end : TalkEnd) × (status ≡ status_of end) × Ran tables before now rows input end trace
 
--- the same from the tables on that were opened
-abbrev pub RanFrom : Option Opening → Option (List Row) → Option (List Row) → Option (List ℕ) → Option (List ℕ) → List ℕ → Status → List Step → Type 0
-RanFrom opening rows_before rows before now input status trace =
-    (tables : Tables) × IfSome rows_before (λ kept. IsOpenedFrom opening kept tables) × TalkedFrom tables rows before now input status trace
+-- Tables were opened, and the keeper has the rows of a state that a legal history leads to from them on: over an input that is told,
+-- of the conversation's.
+abbrev pub RanFrom : Option Opening → Option (List Row) → Option (List Row) → Option (List ℕ) → Option (List ℕ) → Option (List ℕ) → Status → List Step → Type 0
+RanFrom opening rows_before rows left before now status trace =
+    (tables : Tables) × IfSome rows_before (λ kept. IsOpenedFrom opening kept tables) × KeptFrom tables rows
+    × IfSome left (λ input. TalkedFrom tables rows before now input status trace)
 
 -- how a run can end whose conversation began
 abbrev pub EndsTalking : Status → Type 0

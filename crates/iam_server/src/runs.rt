@@ -1,14 +1,14 @@
 // One run of the program.
-ghost use Rattle.std.specs.Prelude.{◌≡◌, ◌≤◌, ◌⊎◌, [], IfOk, IfSome};
+ghost use Rattle.std.specs.Prelude.{◌≡◌, ◌⊎◌, [], IfOk, IfSome};
 ghost use Rattle.std.specs.declared.option.Option.{Option as Opt};
 ghost use Rattle.iam_model.specs.Good.{Good};
 ghost use Rattle.iam_model.specs.Opening.{IsOpening};
 ghost use Rattle.iam_outer.specs.Causes.{Rose};
 ghost use Rattle.iam_outer.specs.Given.{AppendsMoments};
 ghost use Rattle.iam_office.specs.Talks.{Rise, all_keeper_faults, all_moments};
+ghost use Rattle.iam_lone.specs.Ran.{KeptFrom};
 ghost use Rattle.iam_rows.specs.Kept.{KeepsTables};
 ghost use Rattle.iam_types.specs.declared.tables.Opening.{Opening as AnOpening};
-ghost use Rattle.iam_types.specs.declared.tables.Tables.{Tables as TheTables};
 ghost use Rattle.iam_server.specs.Plan.{IsPlan};
 ghost use Rattle.iam_server.specs.Run.{status_of as its_status, TalkedFrom, RanFrom, EndsUnread, EndsUnopened, EndsTalking, CanEnd};
 ghost use Rattle.iam_server.specs.declared.plan.Plan.{Plan};
@@ -83,7 +83,7 @@ fn talk_over<L: Line, C: Clock, P: Keeper>(
 ) -> RunEnd
     requires { KeepsTables (P.rows keeper.old) index }
     ensures ran { IfSome (L.left line.old) (λ input. TalkedFrom index (P.rows keeper.new) (L.taken line.old) (L.taken line.new) input result.status result.trace) }
-    ensures kept { (tables : TheTables) × Good tables × KeepsTables (P.rows keeper.new) tables }
+    ensures kept { KeptFrom index (P.rows keeper.new) }
     ensures ends { EndsTalking result.status }
     ensures faults { Rise (all_keeper_faults result.trace) (P.keeper_faults keeper.old) (P.keeper_faults keeper.new) }
     ensures moments { AppendsMoments (C.given clock.old) (C.given clock.new) (all_moments result.trace) }
@@ -112,7 +112,7 @@ fn talk_from<L: Line, C: Clock, P: Keeper>(
     requires rows { KeepsTables (P.rows keeper.old) tables }
     ensures ran { ((result.status ≡ Status.OutOfMemory) × (keeper.new ≡ keeper.old) × (line.new ≡ line.old) × (clock.new ≡ clock.old) × (result.trace ≡ []))
         ⊎ IfSome (L.left line.old) (λ input. TalkedFrom tables (P.rows keeper.new) (L.taken line.old) (L.taken line.new) input result.status result.trace) }
-    ensures kept { (tables : TheTables) × Good tables × KeepsTables (P.rows keeper.new) tables }
+    ensures kept { KeptFrom tables (P.rows keeper.new) }
     ensures ends { EndsTalking result.status }
     ensures faults { Rise (all_keeper_faults result.trace) (P.keeper_faults keeper.old) (P.keeper_faults keeper.new) }
     ensures moments { AppendsMoments (C.given clock.old) (C.given clock.new) (all_moments result.trace) }
@@ -138,8 +138,7 @@ fn apply<L: Line, C: Clock, P: Keeper>(
 ) -> RunEnd
     requires { IfSome opening IsOpening }
     ensures ran { (EndsUnopened opening (P.rows keeper.old) (P.rows keeper.new) result.status × (line.new ≡ line.old) × (clock.new ≡ clock.old) × (result.trace ≡ []))
-        ⊎ (((tables : TheTables) × Good tables × KeepsTables (P.rows keeper.new) tables)
-        × IfSome (L.left line.old) (λ input. RanFrom opening (P.rows keeper.old) (P.rows keeper.new) (L.taken line.old) (L.taken line.new) input result.status result.trace)) }
+        ⊎ RanFrom opening (P.rows keeper.old) (P.rows keeper.new) (L.left line.old) (L.taken line.old) (L.taken line.new) result.status result.trace }
     ensures ends { CanEnd result.status }
     ensures talks { result.status ≡ Status.Words → ⊥ }
     ensures keeper { result.status ≡ Status.Keeper → Rose (P.keeper_faults keeper.old) (P.keeper_faults keeper.new) }
@@ -175,8 +174,7 @@ pub fn run<L: Line, C: Clock, P: Keeper>(
     ensures ran { (EndsUnread result.status × (line.new ≡ line.old) × (clock.new ≡ clock.old) × (keeper.new ≡ keeper.old) × (result.trace ≡ []))
         ⊎ ((opening : Opt AnOpening) × IsPlan words.now (Plan.Apply opening)
         × ((EndsUnopened opening (P.rows keeper.old) (P.rows keeper.new) result.status × (line.new ≡ line.old) × (clock.new ≡ clock.old) × (result.trace ≡ []))
-        ⊎ (((tables : TheTables) × Good tables × KeepsTables (P.rows keeper.new) tables)
-        × IfSome (L.left line.old) (λ input. RanFrom opening (P.rows keeper.old) (P.rows keeper.new) (L.taken line.old) (L.taken line.new) input result.status result.trace)))) }
+        ⊎ RanFrom opening (P.rows keeper.old) (P.rows keeper.new) (L.left line.old) (L.taken line.old) (L.taken line.new) result.status result.trace)) }
     ensures ends { CanEnd result.status }
     ensures keeper { result.status ≡ Status.Keeper → Rose (P.keeper_faults keeper.old) (P.keeper_faults keeper.new) }
     ensures faults { Rise (all_keeper_faults result.trace) (P.keeper_faults keeper.old) (P.keeper_faults keeper.new) }
