@@ -1,5 +1,5 @@
 -- What is derived is what the reader gives.
-use Rattle.std.proofs.Common.{◌≡◌, ◌≢◌, ℕ, zero, suc, ◌+◌, ◌<◌, ◌≤◌, ℤ, pos, neg_ℤ, ◌^◌, nat_lt, nat_le, true, cond, List, [], ◌∷◌, ◌++◌, length, Option, Some, None, Bool, false, refl, sym, ap, ◌∙◌, subst, rules, arith, append_assoc, lit<}
+use Rattle.std.proofs.Common.{◌≡◌, ◌≢◌, ℕ, zero, suc, ◌+◌, ◌<◌, ◌≤◌, pos, neg_ℤ, ◌^◌, cond, List, [], ◌∷◌, ◌++◌, length, Some, None, false, refl, ap, ◌∙◌, rules, arith, append_assoc, lit<}
 use Rattle.std.proofs.lemmas.Bool.{lt-ltb, le-leb}
 use Rattle.cel_tree.specs.declared.tree.Op.{Op}
 use Rattle.cel_tree.specs.declared.tree.Expr.{Expr}
@@ -13,8 +13,8 @@ use Rattle.cel_grammar.specs.declared.level.Level.TheVariants.{Or, And, Rel, Add
 use Rattle.cel_grammar.specs.Place.{Place, from, span, Takes, sees_number}
 use Rattle.cel_grammar.specs.Grammar as g
 use Rattle.cel_grammar.specs.Grammar.{Sort, Whole, Binary, Unary, Nots, Negs, Member, Primary, operand, op_of, Derives, Arguments, Listed, Elements, Row}
-use Rattle.cel_grammar.specs.Reader.{Parser, and_then, pure, fail, next, first, op_in, op_at, after, after_negation, positive, negated, literal, negative_by, negative, sees, name_in, name, with_op, args_from, args, called, grouped, row_from, row, listed, primary_by, primary, selected, member_from, member, nots, negs, unary, chain_from, chained, side, chain, picked, whole_of, whole_at}
-use Rattle.cel_grammar.proofs.Rank.{sign_rank, kind_rank, rank, sort_rank, Stops, operand_rank, takes_next, takes_first, takes_length, takes_rank, after_takes, after_skips, after_unseen, NoNegation, negation_takes, negation_skips, begins, listed_opens, row_starts, not_comma, bracket_not_comma, op_rank, op_none, op_some, shrinks, arguments_shrink, listed_shrink, elements_shrink, row_shrink}
+use Rattle.cel_grammar.specs.Reader.{Parser, and_then, pure, fail, next, after, negated, literal, negative_by, negative, sees, name_in, name, with_op, args_from, args, called, grouped, row_from, row, listed, primary_by, primary, selected, member_from, member, nots, negs, unary, chain_from, chained, side, chain, picked, whole_of, whole_at}
+use Rattle.cel_grammar.proofs.Rank.{sign_rank, rank, sort_rank, Stops, operand_rank, takes_next, takes_first, takes_length, takes_rank, after_takes, after_skips, after_unseen, NoNegation, negation_takes, negation_skips, begins, listed_opens, row_starts, not_comma, bracket_not_comma, op_rank, op_none, op_some, shrinks, arguments_shrink}
 
 -- what the reader of s gives at i is e, and goes on at j
 abbrev Gives : Sort → Parser Expr → Place → Expr → Place → Type 0

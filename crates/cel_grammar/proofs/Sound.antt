@@ -1,5 +1,5 @@
 -- What the reader gives is derived.
-use Rattle.std.proofs.Common.{◌≡◌, ℕ, zero, suc, ◌+◌, ℤ, pos, neg_ℤ, ◌<◌, ◌≤◌, ◌^◌, nat_lt, nat_le, cond, List, [], ◌∷◌, ◌++◌, length, Option, Some, None, Bool, true, false, ◌⊎◌, inl, inr, refl, sym, ap, ◌∙◌, subst, rules, append_assoc}
+use Rattle.std.proofs.Common.{◌≡◌, ℕ, zero, suc, ◌+◌, pos, neg_ℤ, ◌^◌, nat_lt, nat_le, cond, List, [], ◌∷◌, ◌++◌, length, Option, Some, None, Bool, true, false, ◌⊎◌, inl, inr, refl, sym, ◌∙◌, subst, append_assoc}
 use Rattle.std.proofs.lemmas.Bool.{ltb-true, leb-true}
 use Rattle.cel_tree.specs.declared.tree.Op.{Op}
 use Rattle.cel_tree.specs.declared.tree.Expr.{Expr}
@@ -13,8 +13,8 @@ use Rattle.cel_grammar.specs.declared.level.Level.TheVariants.{Or, And, Rel, Add
 use Rattle.cel_grammar.specs.Place.{Place, from, span, Takes}
 use Rattle.cel_grammar.specs.Grammar as g
 use Rattle.cel_grammar.specs.Grammar.{Sort, Whole, Binary, Unary, Nots, Negs, Member, Primary, operand, op_of, Derives, Arguments, Listed, Elements, Row}
-use Rattle.cel_grammar.specs.Reader.{Parser, and_then, pure, fail, next, first, op_in, op_at, after, after_negation, positive, negated, literal, negative_by, negative, name_in, name, with_op, args_from, args, called, grouped, row_from, row, listed, primary_by, primary, selected, member_from, member, nots, negs, unary, chain_from, chained, side, chain, picked, whole_of, whole_at}
-use Rattle.cel_grammar.proofs.Steps.{some_is, Bound, bind_ok, after_ok, negation_ok, first_taken}
+use Rattle.cel_grammar.specs.Reader.{Parser, and_then, pure, fail, next, first, op_in, op_at, after, positive, negated, literal, negative_by, negative, name_in, name, with_op, args_from, args, called, grouped, row_from, row, listed, primary_by, primary, selected, member_from, member, nots, negs, unary, chain_from, chained, side, chain, picked, whole_of, whole_at}
+use Rattle.cel_grammar.proofs.Steps.{some_is, bind_ok, after_ok, negation_ok, first_taken}
 
 pub record Sound (s : Sort) (p : Parser Expr) : Type 0 where
   pub at : (i : Place) (y : Expr × Place) → p i ≡ Some y → Derives s i y.1 y.0

@@ -1,5 +1,5 @@
 -- The steps that the reader's functions are made of.
-use Rattle.std.proofs.Common.{◌≡◌, ℕ, List, [], ◌∷◌, Option, Some, None, Bool, true, false, cond, ◌⊎◌, inl, inr, refl, sym, ap, ◌∙◌, subst, rules}
+use Rattle.std.proofs.Common.{◌≡◌, ℕ, List, [], ◌∷◌, Option, Some, None, Bool, true, false, cond, ◌⊎◌, inl, inr, refl, ap, rules}
 use denote.Enum.Bare.{same_true, true_same}
 use Rattle.cel_token.specs.declared.sign.Sign.{Sign}
 use Rattle.cel_token.specs.declared.sign.Sign.TheVariants as sign

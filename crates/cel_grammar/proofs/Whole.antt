@@ -1,15 +1,15 @@
 -- The reader and the grammar agree on whole lists of tokens.
-use Rattle.std.proofs.Common.{◌≡◌, ℕ, suc, ◌+◌, ◌<◌, List, [], ◌∷◌, length, Option, Some, None, Result, Ok, Err, refl, sym, ap, ◌∙◌, subst, arith}
+use Rattle.std.proofs.Common.{◌≡◌, ℕ, suc, ◌<◌, List, [], ◌∷◌, length, Option, Some, None, Err, refl, sym, ap, ◌∙◌, arith}
 use Rattle.cel_tree.specs.declared.tree.Expr.{Expr}
 use Rattle.cel_token.specs.declared.token.Token.{Token}
 use Rattle.cel_grammar.specs.declared.stop.Stop.{Stop}
 use Rattle.cel_grammar.specs.declared.stop.Stop.TheVariants.{OutOfMemory, NotAnExpression}
 use Rattle.cel_grammar.specs.Place.{Place, start_of}
-use Rattle.cel_grammar.specs.Grammar.{Whole, Derives, IsExpr}
+use Rattle.cel_grammar.specs.Grammar.{IsExpr}
 use Rattle.cel_grammar.specs.Reader.{whole_at, Reads}
 use Rattle.cel_grammar.specs.Answer.{Gives}
 use Rattle.cel_grammar.proofs.Steps.{some_is}
-use Rattle.cel_grammar.proofs.Sound.{Sound, whole_sound}
+use Rattle.cel_grammar.proofs.Sound.{whole_sound}
 use Rattle.cel_grammar.proofs.Complete.{whole_complete}
 
 empty : {A : Type 0} (xs : List A) → length xs ≡ 0 → xs ≡ []

@@ -1,6 +1,6 @@
 -- The grammar of expressions. `Derives s i j e`: what stands between the places i and j is derived from s, and e is its tree.
 -- The span of a node runs from the first to the last byte of its own derivation: brackets round it are not in it.
-use Rattle.std.specs.Prelude.{◌≡◌, ◌<◌, ◌≤◌, ◌^◌, ℕ, ℤ, pos, neg_ℤ, Bool, false, List, [], ◌∷◌, Option, Some, None}
+use Rattle.std.specs.Prelude.{◌≡◌, ◌<◌, ◌≤◌, ◌^◌, ℕ, pos, neg_ℤ, Bool, false, List, [], ◌∷◌, Option, Some, None}
 use Rattle.cel_tree.specs.declared.tree.Op.{Op}
 use Rattle.cel_tree.specs.declared.tree.Op.TheVariants as op
 use Rattle.cel_tree.specs.declared.tree.Expr.{Expr}

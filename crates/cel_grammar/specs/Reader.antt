@@ -1,7 +1,6 @@
 -- What the reader's functions compute.
 use Rattle.std.specs.Prelude.{◌≡◌, ℕ, zero, suc, ◌+◌, ◌^◌, nat_lt, nat_le, ℤ, pos, neg_ℤ, Bool, true, false, if◌then◌else◌, List, [], ◌∷◌, ◌++◌, length, Option, Some, None, Result, Ok, Err}
 use denote.Enum.Bare.{sameb}
-use Rattle.cel_tree.specs.declared.tree.Span.{Span}
 use Rattle.cel_tree.specs.declared.tree.Op.{Op}
 use Rattle.cel_tree.specs.declared.tree.Expr.{Expr}
 use Rattle.cel_tree.specs.declared.tree.Expr.TheVariants as tree
@@ -16,7 +15,7 @@ use Rattle.cel_grammar.specs.declared.level.Level.TheVariants.{Or, And, Rel, Add
 use Rattle.cel_grammar.specs.declared.stop.Stop.{Stop}
 use Rattle.cel_grammar.specs.declared.stop.Stop.TheVariants.{OutOfMemory, NotAnExpression}
 use Rattle.cel_grammar.specs.Place.{Place, from, span, sees_number}
-use Rattle.cel_grammar.specs.Grammar.{op_of, Sort, Whole, Binary, Unary, Nots, Negs, Member, Primary}
+use Rattle.cel_grammar.specs.Grammar.{op_of}
 
 abbrev pub Parser : Type 0 → Type 0
 Parser A = Place → Option (A × Place)

@@ -1,4 +1,4 @@
-ghost use Rattle.std.specs.Prelude.{◌≡◌, ◌<◌, ◌^◌, length, IfOk};
+ghost use Rattle.std.specs.Prelude.{◌<◌, ◌^◌, length, IfOk};
 ghost use Rattle.cel_tree.specs.declared.tree.Expr.{Expr};
 ghost use Rattle.cel_grammar.specs.Grammar.{IsExpr};
 ghost use Rattle.cel_grammar.specs.Answer.{Gives};

@@ -13,7 +13,7 @@ use Rattle.cel_lexeme.specs.declared.lexeme.Lexeme.{Lexeme}
 use Rattle.cel_lexeme.specs.declared.lexeme.Lexeme.TheVariants.{Token}
 use Rattle.cel_lexeme.specs.declared.strings.Form.{Form}
 use Rattle.cel_lexeme.specs.declared.strings.Body as row
-use Rattle.cel_lexeme.specs.Lexeme.{Spells, Body, IsLongest, HasNone, is_quote, is_raw_mark, quotes, closes, number, number_lexeme, all_digits, word_lexeme, string_lexeme}
+use Rattle.cel_lexeme.specs.Lexeme.{Spells, Body, is_quote, is_raw_mark, quotes, closes, number, number_lexeme, all_digits, word_lexeme, string_lexeme}
 use Rattle.cel_lexeme.specs.Lexeme as spec
 use Rattle.cel_lexeme.specs.Front.{lexeme_at, raw_at, one_more, or_else, word_at, number_at, digits_at, is_hexadecimal, string_at, long_at, form_at, string_of, body_at, body_from, sign_at, sign_one, sign_two, signed}
 use Rattle.cel_lexeme.proofs.Tests.{some_is, prefix_all}

@@ -1,7 +1,7 @@
-ghost use Rattle.std.specs.Prelude.{◌≡◌, ◌<◌, ◌≤◌, ◌+◌, ◌*◌, ◌^◌, min, length, slice_index, take, drop, true, List, ℕ};
+ghost use Rattle.std.specs.Prelude.{◌≡◌, ◌<◌, ◌≤◌, ◌+◌, ◌*◌, ◌^◌, min, length, slice_index, true};
 ghost use Rattle.std.specs.Char.{is_ascii_digit, digit_value};
-ghost use Rattle.cel_lexeme.specs.Lexeme.{number, number_lexeme, all_digits};
-ghost use Rattle.cel_lexeme.specs.Front.{beyond, number_at, digits_at, is_hexadecimal};
+ghost use Rattle.cel_lexeme.specs.Lexeme.{number, number_lexeme};
+ghost use Rattle.cel_lexeme.specs.Front.{beyond, number_at, digits_at};
 
 use crate::Lexeme;
 use crate::bytes::{byte, digit_value, digits_len, is_digit};

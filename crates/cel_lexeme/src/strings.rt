@@ -1,4 +1,4 @@
-ghost use Rattle.std.specs.Prelude.{◌≡◌, ◌<◌, ◌≤◌, ◌+◌, ◌++◌, ◌∷◌, ◌^◌, length, slice_index, drop, IfOk, IfSome, OnOk, OnErr, IsUtf8, true};
+ghost use Rattle.std.specs.Prelude.{◌≡◌, ◌<◌, ◌≤◌, ◌+◌, ◌++◌, ◌^◌, length, slice_index, drop, IfOk, IfSome, OnOk, IsUtf8, true};
 ghost use Rattle.cel_lexeme.specs.Lexeme as spec;
 ghost use Rattle.cel_lexeme.specs.Front as front;
 ghost use lib.Utf8.{scalar};

@@ -6,7 +6,7 @@ use Rattle.std.proofs.lemmas.Bool.{and_parts, eqb-true}
 use Rattle.std.proofs.lemmas.Bool.Decides.{nat_tests}
 use Rattle.std.proofs.lemmas.Str.{IsUtf8-nil, IsUtf8-drop, IsCharBoundary-before_ascii, IsCharBoundary-after_ascii}
 use Rattle.std.proofs.Math.Seq.{drop-append_seam}
-use Rattle.cel_lexer.specs.Cut.{Past, is_blank, is_line_end, begins_comment}
+use Rattle.cel_lexer.specs.Cut.{Past, is_blank, is_line_end}
 use Rattle.cel_lexer.specs.Cut as spec
 use Rattle.cel_lexer.specs.Past.{past}
 

@@ -1,4 +1,4 @@
-ghost use Rattle.std.specs.Prelude.{◌≡◌, ◌<◌, ◌≤◌, ◌-◌, ◌^◌, ℕ, List, Result, length, IsUtf8, false, true, Ok, Err, IfOk};
+ghost use Rattle.std.specs.Prelude.{◌≡◌, ◌<◌, ◌-◌, ◌^◌, ℕ, List, Result, length, IsUtf8, false, true, Ok, Err, IfOk};
 ghost use Rattle.std.specs.List.{All};
 ghost use Rattle.cel_token.specs.Spelling.{IsProper};
 ghost use Rattle.cel_token.specs.declared.token.Token.{Token};

@@ -16,7 +16,7 @@ use Rattle.cel_lexeme.specs.Lexeme.{IsLongest}
 use Rattle.cel_lexeme.specs.Front.{lexeme_at}
 use Rattle.cel_lexer.specs.declared.seen.Seen.{Seen}
 use Rattle.cel_lexer.specs.declared.stop.Stop.{Stop}
-use Rattle.cel_lexer.specs.Cut.{Cut, Past, after, may_stand, token_at}
+use Rattle.cel_lexer.specs.Cut.{Cut, after, token_at}
 use Rattle.cel_lexer.specs.Cut as cut
 use Rattle.cel_shown.specs.Shown.{Piece, Blank, Word, tokens_of}
 use Rattle.cel_shown.specs.Spelled.{spelled, bytes_of}

@@ -16,7 +16,7 @@ use Rattle.cel_lexeme.specs.declared.strings.Form.{Form}
 use Rattle.cel_lexeme.specs.declared.strings.Body as row
 use Rattle.cel_lexeme.specs.Lexeme.{is_quote, is_raw_mark, number, number_lexeme, all_digits, word_lexeme, closes}
 use Rattle.cel_lexeme.specs.Front.{beyond, lexeme_at, word_at, number_at, is_hexadecimal, string_at, string_of, body_from, behind}
-use Rattle.cel_lexer.specs.Cut.{Past, is_blank, begins_comment}
+use Rattle.cel_lexer.specs.Cut.{Past, is_blank}
 use Rattle.cel_lexer.specs.Cut as cut
 use Rattle.cel_shown.specs.Spelled.{spelled, escaped, escaped_byte}
 use Rattle.cel_print_bytes.proofs.Fronts.{prefix_is, IsDecimal, decimal_is, digit_is, letter_is, word_no_quote, is_end, end_is}

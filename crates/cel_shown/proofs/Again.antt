@@ -1,5 +1,5 @@
 -- What is written is derived again.
-use Rattle.std.proofs.Common.{◌≡◌, ℕ, zero, suc, ℤ, pos, negsuc, neg_ℤ, ◌<◌, ◌≤◌, ◌^◌, nat_lt, Bool, true, false, ◌&&◌, List, [], ◌∷◌, ◌++◌, refl, sym, ap, ◌∙◌, subst, map, append_assoc, arith, lit<, lit≤}
+use Rattle.std.proofs.Common.{◌≡◌, ℕ, zero, suc, ℤ, pos, negsuc, ◌<◌, ◌≤◌, ◌^◌, nat_lt, Bool, true, false, ◌&&◌, List, [], ◌∷◌, ◌++◌, refl, sym, ap, ◌∙◌, subst, map, append_assoc, arith, lit≤}
 use Rattle.std.proofs.lemmas.Bool.{ltb-true}
 use Rattle.cel_tree.specs.declared.tree.Span.{Span}
 use Rattle.cel_tree.specs.declared.tree.Op.{Op}
@@ -12,14 +12,13 @@ use Rattle.cel_token.specs.declared.sign.Sign.{Sign}
 use Rattle.cel_token.specs.declared.sign.Sign.TheVariants as sign
 use Rattle.cel_token.specs.declared.token.Kind.{Kind}
 use Rattle.cel_token.specs.declared.token.Kind.TheVariants as kind
-use Rattle.cel_grammar.specs.declared.level.Level.{Level}
-use Rattle.cel_grammar.specs.declared.level.Level.TheVariants.{Or, And, Rel, Add, Mul}
+use Rattle.cel_grammar.specs.declared.level.Level.TheVariants.{Or}
 use Rattle.cel_grammar.specs.Place.{Place, Takes, span, sees_number}
 use Rattle.cel_grammar.specs.Grammar as g
 use Rattle.cel_grammar.specs.declared.level.Sort.{Sort}
 use Rattle.cel_grammar.specs.declared.level.Sort.TheVariants.{Whole, Binary, Unary, Nots, Negs, Member, Primary}
 use Rattle.cel_grammar.specs.Grammar.{operand, Derives, Arguments, Listed, Elements, Row}
-use Rattle.cel_shown.specs.Shown.{Piece, Blank, Word, signed, bracketed, placed, number, separated, closed_by, spaced, Writing, layer_shown, shown, level_of, sign_of, Stands}
+use Rattle.cel_shown.specs.Shown.{Piece, Blank, Word, signed, number, separated, closed_by, spaced, Writing, layer_shown, shown, level_of, sign_of, Stands}
 use Rattle.cel_shown.specs.Readable.{all_true, is_number, layer_readable, readable, DerivesAgain}
 use Rattle.cel_shown.proofs.Layers.{fold_bool, fold_int, fold_str, fold_name, fold_select, fold_call, fold_method, fold_many, fold_not, fold_neg, fold_two, fold_pick}
 use Rattle.cel_shown.proofs.Stand.{split, first_of_them, unblanked, only_one, inside, begins_with, brackets_begin}

@@ -1,7 +1,5 @@
 -- How many tokens a tree is written with, and how deep its brackets are.
-use Rattle.std.proofs.Common.{◌≡◌, ℕ, zero, suc, ℤ, pos, negsuc, ◌+◌, ◌≤◌, max, Bool, true, false, cond, List, [], ◌∷◌, map, refl, sym, ap, ◌∙◌, subst, arith}
-use Rattle.cel_tree.specs.declared.tree.Span.{Span}
-use Rattle.cel_tree.specs.declared.tree.Op.{Op}
+use Rattle.std.proofs.Common.{◌≡◌, ℕ, zero, suc, ℤ, pos, negsuc, ◌+◌, ◌≤◌, max, Bool, true, false, cond, List, [], ◌∷◌, map, refl, sym, subst, arith}
 use Rattle.cel_tree.specs.declared.tree.Expr.{Expr, fold-Expr, roll-Expr, ind-Expr, map-Expr}
 use Rattle.cel_tree.specs.declared.tree.Expr.TheOpen.{Expr-F}
 use Rattle.cel_tree.specs.declared.tree.Expr.TheVariants as tree

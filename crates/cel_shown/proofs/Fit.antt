@@ -1,5 +1,5 @@
 -- What is derived from a sort is derived from each sort that it is within.
-use Rattle.std.proofs.Common.{◌≡◌, Bool, true, false, cond, List, Option, Some, refl, sym, ap, ◌∙◌}
+use Rattle.std.proofs.Common.{◌≡◌, Bool, true, false, cond, List, Some, refl}
 use Rattle.cel_tree.specs.declared.tree.Op.{Op}
 use Rattle.cel_tree.specs.declared.tree.Op.TheVariants as op
 use Rattle.cel_tree.specs.declared.tree.Expr.{Expr}
@@ -13,7 +13,7 @@ use Rattle.cel_grammar.specs.declared.level.Sort.TheVariants.{Whole, Binary, Una
 use Rattle.cel_grammar.specs.Grammar.{op_of, Derives}
 use Rattle.cel_shown.specs.Shown.{Piece, Stands, within, level_of, sign_of, bracketed, placed}
 use Rattle.cel_shown.specs.Readable.{DerivesAgain}
-use Rattle.cel_shown.proofs.Stand.{Inside, inside, brackets_begin}
+use Rattle.cel_shown.proofs.Stand.{inside, brackets_begin}
 
 pub op_is : (o : Op) → op_of (level_of o) (sign_of o) ≡ Some o
 op_is op.Or = refl

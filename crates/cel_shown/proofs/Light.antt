@@ -1,5 +1,5 @@
 -- What is written is no larger than what it was read from.
-use Rattle.std.proofs.Common.{◌≡◌, ℕ, zero, suc, ℤ, pos, negsuc, neg_ℤ, ◌+◌, ◌-◌, ◌≤◌, max, Bool, true, false, cond, Option, Some, List, [], ◌∷◌, map, length, refl, sym, ap, ◌∙◌, subst, arith}
+use Rattle.std.proofs.Common.{◌≡◌, ℕ, zero, suc, pos, neg_ℤ, ◌+◌, ◌-◌, ◌≤◌, Bool, true, false, cond, Some, List, [], ◌∷◌, map, length, refl, sym, ap, ◌∙◌, subst, arith}
 use Rattle.cel_tree.specs.declared.tree.Op.{Op}
 use Rattle.cel_tree.specs.declared.tree.Expr.{Expr}
 use Rattle.cel_tree.specs.declared.tree.Expr.TheVariants as tree
@@ -21,8 +21,8 @@ use Rattle.cel_shown.specs.Shorter.{kinds_of, NoLarger}
 use Rattle.cel_shown.proofs.Layers.{fold_bool, fold_int, fold_str, fold_name, fold_select, fold_call, fold_method, fold_many, fold_not, fold_neg, fold_two, fold_pick}
 use Rattle.cel_grammar.proofs.Steps.{some_is}
 use Rattle.cel_shown.proofs.Stand.{begins_with}
-use Rattle.cel_shown.proofs.Cost.{Cost, beside, plus, in_brackets, flat, Costing, number_cost, placed_cost, separated_cost, layer_cost, cost, NoMore, Wider, costs, whole_is_wider, level_is_wider, nots_are_wider, negs_are_wider, unary_is_wider, member_is_wider}
-use Rattle.cel_shown.proofs.Shape.{Measured, measured}
+use Rattle.cel_shown.proofs.Cost.{Cost, beside, plus, in_brackets, flat, Costing, number_cost, separated_cost, layer_cost, cost, NoMore, Wider, costs, whole_is_wider, level_is_wider, nots_are_wider, negs_are_wider, unary_is_wider, member_is_wider}
+use Rattle.cel_shown.proofs.Shape.{measured}
 
 -- between the places stand at least so many tokens, with brackets at least so deep, and as many open behind them as before
 record Covers (c : Cost) (i j : Place) : Type 0 where

@@ -1,7 +1,6 @@
 -- Each piece of what is written may stand where it stands.
-use Rattle.std.proofs.Common.{◌≡◌, ℕ, zero, suc, ℤ, pos, negsuc, ◌<◌, ◌≤◌, ◌^◌, nat_lt, nat_le, Bool, true, false, cond, ◌&&◌, List, [], ◌∷◌, ◌++◌, Option, Some, None, refl, sym, ap, ◌∙◌, subst, map, append_assoc, arith, lit<, lit≤}
-use Rattle.std.proofs.lemmas.Bool.{ltb-true, lt-ltb, le-leb}
-use Rattle.cel_tree.specs.declared.tree.Span.{Span}
+use Rattle.std.proofs.Common.{◌≡◌, ℕ, zero, suc, ℤ, pos, negsuc, ◌<◌, ◌^◌, nat_lt, Bool, true, false, cond, ◌&&◌, List, [], ◌∷◌, ◌++◌, Option, Some, None, refl, sym, ap, ◌∙◌, subst, map, append_assoc, arith}
+use Rattle.std.proofs.lemmas.Bool.{ltb-true, le-leb}
 use Rattle.cel_tree.specs.declared.tree.Op.{Op}
 use Rattle.cel_tree.specs.declared.tree.Op.TheVariants as op
 use Rattle.cel_tree.specs.declared.tree.Expr.{Expr, roll-Expr, ind-Expr, map-Expr}
@@ -12,10 +11,9 @@ use Rattle.cel_token.specs.declared.sign.Sign.{Sign}
 use Rattle.cel_token.specs.declared.sign.Sign.TheVariants as sign
 use Rattle.cel_token.specs.declared.token.Kind.{Kind}
 use Rattle.cel_token.specs.declared.token.Kind.TheVariants as kind
-use Rattle.cel_grammar.specs.declared.level.Level.{Level}
-use Rattle.cel_grammar.specs.declared.level.Level.TheVariants.{Or, And, Rel, Add, Mul}
+use Rattle.cel_grammar.specs.declared.level.Level.TheVariants.{Or, And, Add, Mul}
 use Rattle.cel_grammar.specs.declared.level.Sort.{Sort}
-use Rattle.cel_grammar.specs.declared.level.Sort.TheVariants.{Whole, Binary, Unary, Nots, Negs, Member, Primary}
+use Rattle.cel_grammar.specs.declared.level.Sort.TheVariants.{Whole, Binary, Nots, Negs, Member}
 use Rattle.cel_grammar.specs.Grammar.{operand}
 use Rattle.cel_shown.specs.Shown.{Piece, Blank, Word, signed, bracketed, within, placed, number, separated, closed_by, spaced, Writing, layer_shown, shown, level_of, sign_of}
 use Rattle.cel_shown.specs.Readable.{all_true, is_number, layer_readable, readable}

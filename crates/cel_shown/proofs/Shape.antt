@@ -1,9 +1,8 @@
 -- The tokens of what is written, counted.
 use Rattle.std.proofs.Common.{◌≡◌, ℕ, zero, suc, ℤ, pos, negsuc, ◌+◌, ◌-◌, ◌≤◌, max, Bool, true, false, cond, List, [], ◌∷◌, ◌++◌, map, length, refl, sym, ap, ◌∙◌, subst, append_assoc, append-nil, arith}
-use Rattle.cel_tree.specs.declared.tree.Span.{Span}
 use Rattle.cel_tree.specs.declared.tree.Op.{Op}
 use Rattle.cel_tree.specs.declared.tree.Op.TheVariants as op
-use Rattle.cel_tree.specs.declared.tree.Expr.{Expr, fold-Expr, roll-Expr, ind-Expr, map-Expr}
+use Rattle.cel_tree.specs.declared.tree.Expr.{Expr, roll-Expr, ind-Expr, map-Expr}
 use Rattle.cel_tree.specs.declared.tree.Expr.TheOpen.{Expr-F}
 use Rattle.cel_tree.specs.declared.tree.Expr.TheVariants as tree
 use Rattle.cel_tree.specs.declared.tree.Expr.TheVariants.{rolls-Bool, rolls-Int, rolls-Str, rolls-Name, rolls-Select, rolls-Call, rolls-Method, rolls-Many, rolls-Not, rolls-Neg, rolls-Two, rolls-Pick}
@@ -12,10 +11,9 @@ use Rattle.cel_token.specs.declared.sign.Sign.TheVariants as sign
 use Rattle.cel_token.specs.declared.token.Token.{Token}
 use Rattle.cel_token.specs.declared.token.Kind.{Kind}
 use Rattle.cel_token.specs.declared.token.Kind.TheVariants as kind
-use Rattle.cel_grammar.specs.declared.level.Level.{Level}
 use Rattle.cel_grammar.specs.declared.level.Level.TheVariants.{Or}
 use Rattle.cel_grammar.specs.declared.level.Sort.{Sort}
-use Rattle.cel_grammar.specs.declared.level.Sort.TheVariants.{Whole, Binary, Unary, Nots, Negs, Member, Primary}
+use Rattle.cel_grammar.specs.declared.level.Sort.TheVariants.{Whole, Binary, Nots, Negs, Member}
 use Rattle.cel_grammar.specs.Grammar.{operand}
 use Rattle.cel_grammar.specs.Depth.{opened, deepest}
 use Rattle.cel_shown.specs.Shown.{Piece, Blank, Word, signed, bracketed, within, placed, number, separated, closed_by, spaced, Writing, layer_shown, shown, level_of, sign_of, tokens_of}

@@ -1,5 +1,5 @@
 -- What stands between two places, taken apart.
-use Rattle.std.proofs.Common.{◌≡◌, Bool, true, false, List, [], ◌∷◌, ◌++◌, refl, sym, ap, subst}
+use Rattle.std.proofs.Common.{◌≡◌, false, List, [], ◌∷◌, ◌++◌, refl, ap, subst}
 use Rattle.cel_token.specs.declared.sign.Sign.TheVariants as sign
 use Rattle.cel_token.specs.declared.token.Token.{Token}
 use Rattle.cel_token.specs.declared.token.Kind.{Kind}

@@ -1,7 +1,6 @@
 -- What may stand beside what: a blank where two tokens would else run together, and a minus before a number only as
 -- part of its literal.
 use Rattle.std.specs.Prelude.{◌≡◌, ℕ, ◌^◌, nat_lt, nat_le, Bool, if◌then◌else◌, List, [], ◌∷◌, Option, Some, None}
-use Rattle.std.specs.Option.{option_and_then}
 use Rattle.cel_token.specs.declared.sign.Sign.{Sign}
 use Rattle.cel_token.specs.declared.sign.Sign.TheVariants as sign
 use Rattle.cel_token.specs.declared.token.Kind.{Kind}

@@ -1,5 +1,5 @@
 -- What is written needs no more tokens and no more brackets than what it was read from.
-use Rattle.std.specs.Prelude.{◌≡◌, ◌≤◌, List, map, length}
+use Rattle.std.specs.Prelude.{◌≤◌, List, map, length}
 use Rattle.cel_token.specs.declared.token.Token.{Token}
 use Rattle.cel_token.specs.declared.token.Kind.{Kind}
 use Rattle.cel_grammar.specs.Depth.{deepest}

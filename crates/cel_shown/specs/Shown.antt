@@ -1,5 +1,5 @@
 -- How a tree is written: the tokens, and the blanks between them.
-use Rattle.std.specs.Prelude.{◌≡◌, ℕ, zero, suc, ℤ, pos, negsuc, Bool, true, false, if◌then◌else◌, nat_le, List, [], ◌∷◌, ◌++◌}
+use Rattle.std.specs.Prelude.{ℕ, zero, suc, ℤ, pos, negsuc, Bool, true, false, if◌then◌else◌, nat_le, List, [], ◌∷◌, ◌++◌}
 use Rattle.cel_tree.specs.declared.tree.Op.{Op}
 use Rattle.cel_tree.specs.declared.tree.Op.TheVariants as op
 use Rattle.cel_tree.specs.declared.tree.Expr.{Expr, fold-Expr}

@@ -1,5 +1,5 @@
 -- The bytes of pieces.
-use Rattle.std.specs.Prelude.{ℕ, Bool, true, false, if◌then◌else◌, ◌==◌, List, [], ◌∷◌, ◌++◌, codes}
+use Rattle.std.specs.Prelude.{ℕ, true, false, if◌then◌else◌, ◌==◌, List, [], ◌∷◌, ◌++◌, codes}
 use Rattle.std.specs.Fmt.{decimal}
 use Rattle.cel_token.specs.Spelling.{spelling}
 use Rattle.cel_token.specs.declared.token.Kind.{Kind}

@@ -3,7 +3,6 @@ ghost use Rattle.cel_tree.specs.declared.tree.Expr.{Expr};
 ghost use Rattle.cel_token.specs.declared.token.Token.{Token};
 ghost use Rattle.cel_grammar.specs.Place.{Place};
 ghost use Rattle.cel_grammar.specs.Grammar.{IsExpr};
-ghost use Rattle.cel_grammar.specs.declared.level.Sort.{Sort};
 ghost use Rattle.cel_grammar.specs.declared.level.Sort.TheVariants.{Whole};
 ghost use Rattle.cel_shown.specs.Shown.{written, tokens_of, Stands};
 ghost use Rattle.cel_shown.specs.Readable.{readable, DerivesAgain, all_pass};

@@ -1,11 +1,10 @@
 -- What is printed is read again.
-use Rattle.std.proofs.Common.{◌≡◌, ℕ, ◌≤◌, Bool, true, List, [], ◌∷◌, map, length, Result, Ok, refl, sym, ap, ◌∙◌, arith}
+use Rattle.std.proofs.Common.{◌≡◌, ℕ, Bool, true, List, [], ◌∷◌, refl, arith}
 use Rattle.cel_tree.specs.declared.tree.Expr.{Expr}
 use Rattle.cel_token.specs.declared.token.Token.{Token}
-use Rattle.cel_token.specs.declared.token.Kind.{Kind}
 use Rattle.cel_token.specs.Spelling.{is_name}
 use Rattle.cel_grammar.specs.declared.level.Sort.TheVariants.{Whole}
-use Rattle.cel_grammar.specs.Place.{Place, Takes, start_of}
+use Rattle.cel_grammar.specs.Place.{Place, start_of}
 use Rattle.cel_grammar.specs.Grammar.{IsExpr}
 use Rattle.cel_shown.specs.Shown.{Piece, Blank, Word, Stands, none, blank, word, tokens_of, written}
 use Rattle.cel_shown.specs.Spelled.{bytes_of}
@@ -14,7 +13,7 @@ use Rattle.cel_shown.specs.Separate.{Separate}
 use Rattle.cel_shown.specs.Shorter.{kinds_of, NoLarger}
 use Rattle.cel_print_bytes.specs.Printed.{IsCut}
 use Rattle.cel_syntax.specs.CelText.{CelText}
-use Rattle.cel_syntax.specs.Back.{IsTextOf, ReadsBack}
+use Rattle.cel_syntax.specs.Back.{ReadsBack}
 use Rattle.cel_syntax.proofs.Names.{cut_passes}
 
 -- pieces stand between the places before and behind their tokens

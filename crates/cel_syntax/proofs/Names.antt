@@ -1,5 +1,5 @@
 -- The names among the tokens of a text are names.
-use Rattle.std.proofs.Common.{◌≡◌, ℕ, ◌≤◌, ◌^◌, Bool, true, false, cond, List, [], ◌∷◌, ◌++◌, length, drop, Result, Ok, Err, refl, sym, ap, ◌∙◌}
+use Rattle.std.proofs.Common.{◌≡◌, ℕ, ◌^◌, Bool, true, false, cond, List, Result, Ok, Err, refl, ap, ◌∙◌}
 use Rattle.std.specs.Prelude.{◌&&◌, ◌||◌, not, nat_le, codes, bytes_eq}
 use Rattle.std.proofs.lemmas.Bool.{and_from, or_from, not_from_false}
 use Rattle.cel_token.specs.declared.sign.Sign.TheVariants as sign

@@ -1,5 +1,5 @@
 -- Brackets that are open, counted along the tokens.
-use Rattle.std.proofs.Common.{◌≡◌, ℕ, ◌+◌, ◌≤◌, List, [], ◌∷◌, arith}
+use Rattle.std.proofs.Common.{ℕ, ◌+◌, ◌≤◌, List, [], ◌∷◌, arith}
 use Rattle.cel_token.specs.declared.token.Token.{Token}
 use Rattle.cel_token.specs.declared.sign.Sign.TheVariants as sign
 use Rattle.cel_token.specs.declared.token.Kind.{Kind}

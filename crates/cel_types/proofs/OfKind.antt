@@ -40,7 +40,7 @@ use Rattle.cel_types.specs.Kinds.{kinds_of}
 use Rattle.cel_types.specs.Means as rule
 use Rattle.cel_types.specs.Means.{Means, MeansAt, PartsMean, Concludes, Applies, conjunction, disjunction, first_stop, comes_to, texts_of}
 use Rattle.cel_types.specs.OfKind as of
-use Rattle.cel_types.specs.OfKind.{IsOf, OutcomeIsOf, AllHaveBase, layer_has_base, layer_is_of}
+use Rattle.cel_types.specs.OfKind.{IsOf, OutcomeIsOf, AllHaveBase, layer_is_of}
 use Rattle.cel_types.specs.Table.{truth, int, str, time, length, strs, kind_from, attribute_kind}
 use Rattle.cel_types.specs.Tags.{tag_outcome, attribute_outcome, of_key, key_with_id, has_short, has_id}
 use Rattle.cel_types.specs.TimeText.{time_or_fault, time_of_text, length_or_fault, length_of_text}

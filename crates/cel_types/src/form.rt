@@ -1,4 +1,4 @@
-ghost use Rattle.std.specs.Prelude.{◌≡◌, length};
+ghost use Rattle.std.specs.Prelude.{◌≡◌};
 ghost use Rattle.cel_tree.specs.declared.tree.Expr.{out-Expr};
 ghost use Rattle.cel_types.specs.Forms.{form_of, is_name, attribute_of, resource_attribute, principal_attribute, call_form, tag_function, tag_of, arity, tag_form, is_api, is_whole, is_text, is_empty_list, modified_form, time_part, own_method, method_form};
 

@@ -1,5 +1,5 @@
 -- What is answered has no floats.
-use Rattle.std.proofs.Common.{◌≡◌, ℕ, List, false, refl}
+use Rattle.std.proofs.Common.{◌≡◌, false, refl}
 use Rattle.serde_json.specs.Data.{Data}
 use Rattle.serde_json.specs.Written.{has_float}
 use Rattle.iam_types.specs.declared.refusal.Refusal.{Refusal}

@@ -1,5 +1,5 @@
 -- Empty lists of items.
-use Rattle.std.proofs.Common.{◌≡◌, ℕ, ◌==◌, List, [], ◌∷◌, length, Bool, true, false, ◌↔◌, IsTrue, subst, sym, refl, arith}
+use Rattle.std.proofs.Common.{◌≡◌, ◌==◌, List, [], ◌∷◌, length, Bool, ◌↔◌, IsTrue, refl, arith}
 use Rattle.serde_json.specs.Data.{no_items}
 use Rattle.serde_json.specs.View.{items_view}
 use Rattle.serde_json.specs.declared.value.Value.{Value}

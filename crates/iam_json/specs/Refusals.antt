@@ -1,6 +1,6 @@
 -- Refusals: the number, code, reason and status of each, and its details.
-use Rattle.std.specs.Prelude.{ℕ, List, Bool, codes}
-use Rattle.serde_json.specs.Data.{Data, boolean, number, unsigned, string, object, Members, no_members, member}
+use Rattle.std.specs.Prelude.{ℕ, List, codes}
+use Rattle.serde_json.specs.Data.{Data, boolean, number, unsigned, string, object, no_members, member}
 use Rattle.iam_names.specs.Permission.{permission_text}
 use Rattle.iam_names.specs.Role.{role_text}
 use Rattle.iam_types.specs.declared.refusal.Refusal.{Refusal}

@@ -1,5 +1,5 @@
 // Answers as bodies.
-ghost use Rattle.std.specs.Prelude.{◌≡◌, List as Items, IfOk};
+ghost use Rattle.std.specs.Prelude.{◌≡◌, IfOk};
 ghost use Rattle.serde_json.specs.View.{view};
 ghost use Rattle.iam_json.specs.Answers.{policy_data, answer_data, answer_text};
 

@@ -1,5 +1,5 @@
 // The call of a route and a body.
-ghost use Rattle.std.specs.Prelude.{◌≡◌, IfOk};
+ghost use Rattle.std.specs.Prelude.{IfOk};
 ghost use Rattle.serde_json.specs.View.{view};
 ghost use Rattle.iam_json_data.specs.Body.{BodyGives};
 ghost use Rattle.iam_json_data.specs.Reading.{Gives};

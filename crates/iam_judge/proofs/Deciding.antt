@@ -1,5 +1,5 @@
 -- A policy that is found has no more bindings than a place can count.
-use Rattle.std.proofs.Common.{◌≡◌, ◌<◌, ◌^◌, length, Bool, true, false, cond, List, [], ◌∷◌, Some, None, subst}
+use Rattle.std.proofs.Common.{◌≡◌, ◌<◌, ◌^◌, length, Bool, true, false, cond, List, [], ◌∷◌, Some, subst}
 use Rattle.std.specs.List.{All, find}
 use Rattle.std.proofs.lemmas.List.Elements.{All-head, All-tail}
 use Rattle.iam_names.specs.declared.node.NodeId.{NodeId}

@@ -1,5 +1,5 @@
 // The tables of a keeper's rows.
-ghost use Rattle.std.specs.Prelude.{◌≡◌, ◌≤◌, [], map, All, IfOk, IfErr, IfSome, IsErrOf, OnErr, OnOk};
+ghost use Rattle.std.specs.Prelude.{◌≡◌, ◌≤◌, [], map, All, IfOk, IfSome, IsErrOf, OnErr, OnOk};
 ghost use Rattle.std.specs.declared.option.Option.{Option as Maybe};
 ghost use Rattle.iam_text.specs.Put.{IsInOrder};
 ghost use Rattle.iam_types.specs.declared.tables.Opening.{Opening as AnOpening};

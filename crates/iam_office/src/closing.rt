@@ -1,6 +1,5 @@
 // What is written behind the replies.
 ghost use Rattle.std.specs.Prelude.{◌≡◌, ◌≤◌, ◌⊎◌, IfOk};
-ghost use Rattle.std.specs.Bool.{OnTrue, OnFalse};
 ghost use Rattle.std.specs.Io.KnownBytes.{Appends};
 ghost use Rattle.iam_answer.specs.Replies.{no_memory_reply as fixed_reply, plain_reply as plain_bytes};
 ghost use Rattle.iam_json.specs.declared.details.Details.TheVariants.{BadHead};

@@ -1,5 +1,5 @@
 // A whole conversation.
-ghost use Rattle.std.specs.Prelude.{◌≡◌, ◌≤◌, [], IfSome};
+ghost use Rattle.std.specs.Prelude.{◌≡◌, [], IfSome};
 ghost use Rattle.iam_outer.specs.Causes.{Rose};
 ghost use Rattle.iam_outer.specs.Given.{AppendsMoments};
 ghost use Rattle.iam_office.specs.Talks.{Rise, Talked, all_keeper_faults, all_moments};

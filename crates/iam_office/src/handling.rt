@@ -7,7 +7,6 @@ ghost use Rattle.iam_model.specs.Entries.{IsEntry, IsCommand};
 ghost use Rattle.iam_names.specs.Caller.{IsCaller};
 ghost use Rattle.iam_outer.specs.Causes.{Rose};
 ghost use Rattle.iam_outer.specs.Given.{AppendsMoments};
-ghost use Rattle.iam_routes.specs.Asked.{IsAsked};
 ghost use Rattle.iam_office.specs.Office.{Leads, accepts};
 ghost use Rattle.iam_office.specs.Says.{Answers, AnswersTo, SaysPlainly, SaysNoKeeper, IsShown, IsStopped, reply_of};
 ghost use Rattle.iam_office.specs.Talks.{IsCounted, IsCountedTo, Rise, moments_of, keeper_faults_of};

@@ -1,8 +1,8 @@
 // The messages of an input, one after another.
-ghost use Rattle.std.specs.Prelude.{◌≡◌, ◌<◌, ◌≤◌, ◌-◌, ◌∷◌, ◌++◌, [], List as Items, ℕ, drop, length, slice_set};
+ghost use Rattle.std.specs.Prelude.{◌≡◌, ◌<◌, ◌≤◌, ◌-◌, [], List as Items, ℕ, drop, length, slice_set};
 ghost use Rattle.iam_outer.specs.Causes.{Rose};
 ghost use Rattle.iam_outer.specs.Given.{AppendsMoments};
-ghost use Rattle.iam_office.specs.Talks.{Answered, EndsAt, WroteAt, Rise, MOST_BYTES, all_keeper_faults, all_moments};
+ghost use Rattle.iam_office.specs.Talks.{Answered, EndsAt, WroteAt, Rise, all_keeper_faults, all_moments};
 
 use crate::handling::let_go;
 use crate::office::Office;

@@ -1,5 +1,5 @@
 // What a message asks for.
-ghost use Rattle.std.specs.Prelude.{◌≡◌, IfOk, List, ℕ};
+ghost use Rattle.std.specs.Prelude.{◌≡◌, IfOk};
 ghost use Rattle.iam_json.specs.Refusals.{line_of};
 ghost use Rattle.iam_routes.specs.Asked.{IsAsked, NamesCaller};
 ghost use Rattle.iam_routes.specs.Routed.{IsRouted};

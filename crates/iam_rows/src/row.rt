@@ -2,7 +2,6 @@
 ghost use Rattle.std.specs.Prelude.{◌≡◌, IfOk, false};
 ghost use Rattle.serde_json.specs.View.{view};
 ghost use Rattle.serde_json.specs.Written.{has_float};
-ghost use Rattle.iam_names.specs.Node.{node_id_text};
 ghost use Rattle.iam_model.specs.Facts.{IsFact};
 ghost use Rattle.iam_rows.specs.Rows.{schema, org_name, org_data, policy_data, IsRow, HasRow};
 

@@ -1,7 +1,7 @@
 ghost use Rattle.std.specs.Prelude.{◌≡◌, ◌↔◌, Some, IsErrOf, IfOk, OnOk, OnErr};
 ghost use Rattle.iam_text.specs.Put.{placed};
 ghost use Rattle.iam_outer.specs.Rows.{row_order, is_at, cut_row, after_write, after_writes, KeeperCause};
-ghost use Rattle.iam_outer.specs.Memory.{FailsNext, fresh, passed, failed};
+ghost use Rattle.iam_outer.specs.Memory.{FailsNext, fresh};
 
 use super::calls::Calls;
 use crate::{Keeper, KeeperStop, List, OutOfMemory, Row, RowWrite, Text};

@@ -1,4 +1,4 @@
-use Rattle.std.proofs.Common.{◌≡◌, ℕ, ◌+◌, ◌-◌, ◌*◌, ◌^◌, ◌<◌, ◌≤◌, length}
+use Rattle.std.proofs.Common.{◌≡◌, ℕ, ◌+◌, ◌-◌, ◌*◌, ◌^◌}
 use Rattle.cel_grammar.specs.Place.{from}
 use Rattle.cel_grammar.specs.Grammar.{Binary}
 use Rattle.cel_grammar.specs.Reader as spec

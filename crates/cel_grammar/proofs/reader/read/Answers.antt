@@ -1,8 +1,7 @@
-use Rattle.std.proofs.Common.{◌≡◌, ◌<◌, length, ◌+◌, ◌∙◌, sym, ap, subst, arith, Some, Err}
+use Rattle.std.proofs.Common.{length, ◌+◌, ◌∙◌, sym, ap, subst, arith}
 use Rattle.cel_tree.specs.declared.tree.Expr.{Expr}
-use Rattle.cel_grammar.specs.Place.{Place, start_of}
 use Rattle.cel_grammar.specs.Grammar.{IsExpr}
-use Rattle.cel_grammar.specs.Reader.{whole_at, Reads}
+use Rattle.cel_grammar.specs.Reader.{whole_at}
 use Rattle.cel_grammar.proofs.Whole.{is_expr, gives_ok, gives_err}
 use Rattle.cel_grammar.proofs.reader.read.Goals as goal
 

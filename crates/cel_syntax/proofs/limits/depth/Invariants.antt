@@ -1,4 +1,4 @@
-use Rattle.std.proofs.Common.{◌≡◌, ◌≤◌, ◌<◌, drop, max}
+use Rattle.std.proofs.Common.{◌≡◌, ◌≤◌, drop, max}
 use Rattle.cel_grammar.specs.Depth.{deepest}
 use Rattle.cel_syntax.proofs.limits.depth.Given as goal
 

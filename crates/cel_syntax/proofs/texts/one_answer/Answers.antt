@@ -1,4 +1,4 @@
-use Rattle.cel_syntax.proofs.One.{Laws, same_tree, one_fault, not_both}
+use Rattle.cel_syntax.proofs.One.{same_tree, one_fault, not_both}
 use Rattle.cel_syntax.proofs.texts.one_answer.Goals as goal
 
 pub returns-clause-tree : goal.returns-clause-tree

@@ -1,4 +1,4 @@
-use Rattle.std.proofs.Common.{◌≡◌, ◌≤◌, ◌<◌, ℕ, List, length, Result, Ok, Err, sym, ap, ◌∙◌, subst, rules, arith}
+use Rattle.std.proofs.Common.{List, Result, sym, ap, ◌∙◌, subst, arith}
 use Rattle.std.proofs.lemmas.Result.{err_from_is_err_and}
 use Rattle.cel_tree.specs.declared.tree.Expr.{Expr}
 use Rattle.cel_token.specs.declared.token.Token.{Token}
@@ -6,7 +6,6 @@ use Rattle.cel_grammar.specs.Grammar.{IsExpr}
 use Rattle.cel_grammar.specs.Depth.{deepest}
 use Rattle.cel_syntax.specs.declared.fault.ReadStop.{ReadStop}
 use Rattle.cel_syntax.specs.CelText as spec
-use Rattle.cel_syntax.specs.CelText.{Faults}
 use Rattle.cel_syntax.proofs.One.{faults_at, never_given, cut_faults, grammar_faults, nothing_missed}
 use Rattle.cel_syntax.proofs.texts.read.Goals as goal
 

@@ -4,7 +4,7 @@ use Rattle.std.proofs.lemmas.List.{take_more}
 use Rattle.std.proofs.lemmas.Result.{err_from_is_err_and, MatchResult-weaker}
 use Rattle.cel_tree.specs.declared.tree.Expr.{Expr, out-Expr}
 use Rattle.cel_tree.specs.declared.tree.Expr.TheVariants.{outs-Bool, outs-Int, outs-Str, outs-Name, outs-Not, outs-Neg}
-use Rattle.cel_types.specs.HasKind.{parts, children}
+use Rattle.cel_types.specs.HasKind.{parts}
 use Rattle.cel_types.proofs.Judged.{judged_at}
 use Rattle.cel_types.specs.HasKind as rule
 use Rattle.cel_types.proofs.Walk.{select_parts, method_parts, two_below, pick_below, no_parts, one_part, two_parts, three_parts, more_parts, first_fault, later_fault, kinds_more, fault_at}

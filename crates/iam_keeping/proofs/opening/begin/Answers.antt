@@ -1,4 +1,4 @@
-use Rattle.std.proofs.Common.{◌≡◌, List, map, sym, subst}
+use Rattle.std.proofs.Common.{List, map, sym, subst}
 use Rattle.std.specs.Prelude.{IfSome}
 use Rattle.iam_types.specs.declared.fact.FactChange.TheVariants.{Put}
 use Rattle.iam_types.specs.declared.tables.Tables.{Tables}
