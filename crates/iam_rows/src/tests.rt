@@ -50,18 +50,31 @@ fn row(alloc: Global, part: &str, body: &str) -> Result<Row, OutOfMemory> {
     })
 }
 
+// Lets a value of any kind go.
+fn let_go<T: Drop>(_value: T) {}
+
 // The row of the fact that a row keeps.
 fn again(alloc: Global, kept: &Row) -> Result<Row, RowStop> {
     let fact = fact_of(alloc, kept)?;
-    Ok(row_of(alloc, &fact)?)
+    let again = row_of(alloc, &fact);
+    let_go(fact);
+    Ok(again?)
 }
 
-// The organisation is put, and the policy is cut.
-fn writes(alloc: Global) -> Result<List<RowWrite>, RowStop> {
-    let put = fact_of(alloc, &row(alloc, "org", ORG)?)?;
-    let cut = fact_of(alloc, &row(alloc, "allow", ALLOW)?)?;
+// The fact of the first row is put, and that of the second is cut.
+fn writes(alloc: Global, put: &Row, cut: &Row) -> Result<List<RowWrite>, RowStop> {
+    let put = fact_of(alloc, put)?;
+    let cut = match fact_of(alloc, cut) {
+        Ok(cut) => cut,
+        Err(stop) => {
+            let_go(put);
+            return Err(stop);
+        }
+    };
     let changes = [FactChange::Put(put), FactChange::Cut(cut)];
-    Ok(writes_of(alloc, changes.as_slice())?)
+    let writes = writes_of(alloc, changes.as_slice());
+    let_go(changes);
+    Ok(writes?)
 }
 
 #[test]
@@ -88,7 +101,10 @@ fn load(alloc: Global, last: &str) -> Result<usize, LoadStop> {
     let mut rows = List::new(alloc);
     rows.push(row(alloc, "allow", ALLOW)?)?;
     rows.push(row(alloc, "org", last)?)?;
-    Ok(facts_of_rows(alloc, rows.as_slice())?.len())
+    let facts = facts_of_rows(alloc, rows.as_slice())?;
+    let count = facts.len();
+    let_go(facts);
+    Ok(count)
 }
 
 #[test]
@@ -107,6 +123,8 @@ fn changes_are_written(rt: HostRuntime) -> Result<(), Fail> {
         part: Text::of(alloc, "allow")?,
         name: Text::of(alloc, NAME)?,
     })?;
-    assert!(rt; writes(alloc)? == wanted);
+    let put = row(alloc, "org", ORG)?;
+    let cut = row(alloc, "allow", ALLOW)?;
+    assert!(rt; writes(alloc, &put, &cut)? == wanted);
     Ok(())
 }
