@@ -83,23 +83,6 @@ fn opened<P: Keeper>(alloc: Global, keeper: &mut P) -> Result<Index, BuildStop>
     }
 }
 
-// What a conversation over this input came to, and what was written.
-fn talked<P: Keeper>(
-    alloc: Global,
-    index: Index,
-    keeper: &mut P,
-    input: List<u8>,
-) -> Result<(Talk, List<u8>), OutOfMemory>
-    requires { KeepsTables (P.rows keeper.old) index }
-{
-    let moments = list(alloc, &[Moment(1_767_225_600)])?;
-    let mut clock = MemoryClock::new(moments, List::new(alloc));
-    let sink = MemorySink::new(alloc, 1_000, List::new(alloc))?;
-    let mut line = Pair::new(MemorySource::new(input, List::new(alloc)), sink);
-    let talk = converse_alone(alloc, index, keeper, &mut line, &mut clock);
-    Ok((talk, list(alloc, line.sink.taken())?))
-}
-
 fn joined(alloc: Global, texts: &[&str]) -> Result<List<u8>, OutOfMemory> {
     let mut bytes = List::new(alloc);
     for text in texts {
@@ -108,6 +91,65 @@ fn joined(alloc: Global, texts: &[&str]) -> Result<List<u8>, OutOfMemory> {
     Ok(bytes)
 }
 
+type InMemory = Pair<MemorySource, MemorySink>;
+
+fn line(alloc: Global, input: &[&str]) -> Result<InMemory, OutOfMemory> {
+    let source = MemorySource::new(joined(alloc, input)?, List::new(alloc));
+    let sink = MemorySink::new(alloc, 1_000, List::new(alloc))?;
+    Ok(Pair::new(source, sink))
+}
+
+// A call of its own, so that what it promises is not carried along by the rest of the test.
+fn talked<P: Keeper>(
+    alloc: Global,
+    index: Index,
+    keeper: &mut P,
+    line: &mut InMemory,
+    clock: &mut MemoryClock,
+) -> Talk
+    requires { KeepsTables (P.rows keeper.old) index }
+{
+    converse_alone(alloc, index, keeper, line, clock)
+}
+
+// What a conversation over the keeper's rows came to.
+fn conversed<P: Keeper>(
+    alloc: Global,
+    keeper: &mut P,
+    line: &mut InMemory,
+) -> Result<Talk, OutOfMemory> {
+    let moments = list(alloc, &[MOMENT])?;
+    let mut clock = MemoryClock::new(moments, List::new(alloc));
+    match opened(alloc, keeper) {
+        Ok(index) => Ok(talked(alloc, index, keeper, line, &mut clock)),
+        Err(_) => Err(OutOfMemory),
+    }
+}
+
+fn wrote(alloc: Global, line: &InMemory, texts: &[&str]) -> Result<bool, OutOfMemory> {
+    let wanted = joined(alloc, texts)?;
+    Ok(line.sink.taken() == wanted.as_slice())
+}
+
+fn keeps(
+    alloc: Global,
+    keeper: &mut MemoryKeeper,
+    given: &[(&str, &str, &str)],
+) -> Result<bool, OutOfMemory> {
+    let wanted = rows(alloc, given)?;
+    Ok(keeper.load() == Ok(wanted))
+}
+
+const MOMENT: Moment = Moment(1_767_225_600);
+
+const STEPS: [Step; 2] = [
+    Step::NoKeeper { moment: MOMENT },
+    Step::Served {
+        number: 2,
+        moment: MOMENT,
+    },
+];
+
 // The keeper's second call is the first commit. A write that isn't kept changes nothing, and the next one is judged as
 // if it had not been there.
 #[test]
@@ -115,20 +157,11 @@ fn a_write_is_made_behind_one_that_was_not_kept(rt: HostRuntime) -> Result<(), F
     let alloc = rt.alloc();
     let first = rows(alloc, &FIRST_ROWS)?;
     let mut keeper = MemoryKeeper::new(alloc, first, list(alloc, &[2])?);
-    let index = opened(alloc, &mut keeper).or(Err("no index"))?;
-    let input = joined(alloc, &[SET, SET])?;
-    let (talk, output) = talked(alloc, index, &mut keeper, input)?;
-    let moment = Moment(1_767_225_600);
+    let mut line = line(alloc, &[SET, SET])?;
+    let talk = conversed(alloc, &mut keeper, &mut line)?;
     assert!(rt; talk.end == TalkEnd::Done);
-    assert!(rt;
-        talk.trace.as_slice()
-            == [
-                Step::NoKeeper { moment },
-                Step::Served { number: 2, moment },
-            ]
-            .as_slice()
-    );
-    assert!(rt; output == joined(alloc, &[KEEPER_FAULT, SET_REPLY])?);
-    assert!(rt; keeper.load() == Ok(rows(alloc, &SET_ROWS)?));
+    assert!(rt; talk.trace.as_slice() == STEPS.as_slice());
+    assert!(rt; wrote(alloc, &line, &[KEEPER_FAULT, SET_REPLY])?);
+    assert!(rt; keeps(alloc, &mut keeper, &SET_ROWS)?);
     Ok(())
 }
