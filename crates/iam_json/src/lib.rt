@@ -19,6 +19,3 @@ pub use details::Details;
 pub use iam_json_data::{BodyStop, etag_number, etag_text};
 pub use laws::one_call;
 pub use reply::{ErrorReply, code_of, error_body, refusal_code};
-
-#[cfg(test)]
-mod tests;

@@ -13,8 +13,6 @@ mod names;
 mod print;
 mod shown;
 mod stop;
-#[cfg(test)]
-mod tests;
 
 pub use binding::read_absent;
 pub use body::read_body;

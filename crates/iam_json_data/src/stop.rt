@@ -6,7 +6,7 @@ ghost use Rattle.iam_json_data.specs.Stop.{MovesOut};
 use iam_text::Text;
 use std::alloc::{AllocError, Global};
 
-#[derive(Debug, PartialEq, Eq, Drop)]
+#[derive(Drop)]
 pub enum BodyStop {
     /// It is no JSON.
     BadJson,

@@ -11,7 +11,7 @@ use iam_text::{List, OutOfMemory, Text};
 use std::alloc::{AllocError, Global};
 
 /// Who makes a call.
-#[derive(Clone, Debug, PartialEq, Eq, Drop)]
+#[derive(Clone, PartialEq, Eq, Drop)]
 pub enum Caller {
     Anonymous,
     User(Email),

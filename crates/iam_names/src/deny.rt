@@ -9,7 +9,7 @@ use iam_text::{OutOfMemory, Text};
 use std::alloc::Global;
 
 /// Whom a deny rule denies, or excepts.
-#[derive(Clone, Debug, PartialEq, Eq, Drop)]
+#[derive(Clone, PartialEq, Eq, Drop)]
 pub enum DenyPrincipal {
     Subject(Email),
     Service(Email),

@@ -20,8 +20,6 @@ mod permission;
 mod pool;
 mod principal_set;
 mod role;
-#[cfg(test)]
-mod tests;
 mod text;
 
 pub use caller::{Caller, copy_caller, same_caller};

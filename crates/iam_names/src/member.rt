@@ -11,7 +11,7 @@ use iam_text::{OutOfMemory, Text};
 use std::alloc::Global;
 
 /// A member of a binding. A deleted one is kept by what stands behind `deleted:`.
-#[derive(Clone, Debug, PartialEq, Eq, Drop)]
+#[derive(Clone, PartialEq, Eq, Drop)]
 pub enum Member {
     User(Email),
     Service(Email),
@@ -26,7 +26,7 @@ pub enum Member {
 }
 
 /// A member of a group.
-#[derive(Clone, Debug, PartialEq, Eq, Drop)]
+#[derive(Clone, PartialEq, Eq, Drop)]
 pub enum Leaf {
     User(Email),
     Service(Email),

@@ -1,14 +1,19 @@
 // Names of organisations, folders and projects.
 ghost use Rattle.std.specs.Prelude.{◌≡◌, ◌↔◌, IfOk, IsTrue};
+ghost use Rattle.std.specs.Cmp.Lexicographic.{slice_cmp};
+ghost use Rattle.std.specs.Fmt.{decimal};
+ghost use Rattle.std.specs.Ordering.{nat_cmp};
 ghost use Rattle.iam_names.specs.Node.{collection_of, node_id_text, node_text, IsNodeName};
 ghost use Rattle.iam_names.specs.Reading.{IsRead, ReadsBack};
 
 use crate::number::number_behind;
 use crate::text::{numbered, prefixed};
 use iam_text::{OutOfMemory, Text};
+use itoa::Buffer;
 use std::alloc::Global;
+use std::cmp::Ordering;
 
-#[derive(Clone, Copy, Debug, PartialEq, Eq, PartialOrd, Ord)]
+#[derive(Clone, Copy, Debug, PartialEq, Eq)]
 pub enum NodeKind {
     Organization,
     Folder,
@@ -16,14 +21,14 @@ pub enum NodeKind {
 }
 
 /// A node by its number, which is never given again.
-#[derive(Clone, Copy, Debug, PartialEq, Eq, PartialOrd, Ord)]
+#[derive(Clone, Copy, Debug, PartialEq, Eq)]
 pub struct NodeId {
     pub kind: NodeKind,
     pub number: u64,
 }
 
 /// A node as a request names it.
-#[derive(Clone, Debug, PartialEq, Eq, Drop)]
+#[derive(Clone, PartialEq, Eq, Drop)]
 pub enum NodeName {
     Organization(u64),
     Folder(u64),
@@ -41,11 +46,33 @@ fn collection(kind: NodeKind) -> &'static str
     }
 }
 
+fn digits_order(a: u64, b: u64) -> Ordering
+    ensures { result ≡ slice_cmp nat_cmp (decimal a) (decimal b) }
+{
+    let mut first = Buffer::new();
+    let mut second = Buffer::new();
+    first.format(a).cmp(second.format(b))
+}
+
 impl NodeId {
     pub fn text(&self, alloc: Global) -> Result<Text, OutOfMemory>
         ensures { IfOk result (λ text. text ≡ node_id_text self.now) }
     {
         numbered(alloc, collection(self.kind), self.number)
+    }
+
+    /// Where the node's name stands beside another's, in bytes. The collections' names differ in their first letters.
+    pub fn name_order(self, other: NodeId) -> Ordering
+        ensures { result ≡ slice_cmp nat_cmp (node_id_text self) (node_id_text other) }
+    {
+        match (self.kind, other.kind) {
+            (NodeKind::Folder, NodeKind::Folder)
+            | (NodeKind::Organization, NodeKind::Organization)
+            | (NodeKind::Project, NodeKind::Project) => digits_order(self.number, other.number),
+            (NodeKind::Folder, _) | (NodeKind::Organization, NodeKind::Project) => Ordering::Less,
+            (NodeKind::Project, _) | (NodeKind::Organization, NodeKind::Folder) =>
+                Ordering::Greater,
+        }
     }
 }
 

@@ -13,7 +13,7 @@ use std::alloc::Global;
 use std::marker::Model;
 
 /// A permission, as `resourcemanager.projects.get`. Permissions are compared by their bytes.
-#[derive(Clone, Debug, PartialEq, Eq, PartialOrd, Ord, Drop)]
+#[derive(Clone, PartialEq, Eq, Drop)]
 pub struct PermissionName {
     text: Text,
 }
@@ -29,7 +29,7 @@ impl Model for PermissionName {
 }
 
 /// The permissions of a service with this resource and verb, where no resource or verb stands for all.
-#[derive(Clone, Debug, PartialEq, Eq, Drop)]
+#[derive(Clone, PartialEq, Eq, Drop)]
 pub struct PermissionGroup {
     pub host: Text,
     pub resource: Option<Text>,

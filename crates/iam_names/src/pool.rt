@@ -7,7 +7,7 @@ use std::alloc::{AllocError, Global};
 use std::fmt::Write;
 
 /// A workforce pool of the organisation, or a workload identity pool of a project, by its number.
-#[derive(Clone, Debug, PartialEq, Eq, Drop)]
+#[derive(Clone, PartialEq, Eq, Drop)]
 pub enum Pool {
     Workforce(Text),
     Workload { project: u64, pool: Text },

@@ -10,7 +10,7 @@ use iam_text::{OutOfMemory, Text};
 use std::alloc::Global;
 
 /// The principals of a node, or of a pool.
-#[derive(Clone, Debug, PartialEq, Eq, Drop)]
+#[derive(Clone, PartialEq, Eq, Drop)]
 pub enum PrincipalSet {
     Node(NodeId),
     Pool(Pool),

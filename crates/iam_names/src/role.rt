@@ -12,7 +12,7 @@ use std::fmt::Write;
 
 /// The name of a role: a predefined one by what stands behind `roles/`, or a custom one of the organisation or of
 /// a project.
-#[derive(Clone, Debug, PartialEq, Eq, Drop)]
+#[derive(Clone, PartialEq, Eq, Drop)]
 pub enum RoleName {
     Predefined(Text),
     OfOrganization { number: u64, id: Text },

@@ -7,7 +7,7 @@ use iam_text::Ordered;
 use std::cmp::Ordering;
 
 /// A row: which part of the tables it is of, its name there, and its body, which is compact JSON.
-#[derive(Clone, Debug, PartialEq, Eq, Drop)]
+#[derive(Clone, PartialEq, Eq, Drop)]
 pub struct Row {
     pub part: Text,
     pub name: Text,
@@ -30,7 +30,7 @@ impl Ordered for Row {
 }
 
 /// What a commit does to one row.
-#[derive(Clone, Debug, PartialEq, Eq, Drop)]
+#[derive(PartialEq, Eq, Drop)]
 pub enum RowWrite {
     /// In place of the row of its part and name, where there is one.
     Put(Row),
@@ -38,7 +38,7 @@ pub enum RowWrite {
     Cut { part: Text, name: Text },
 }
 
-#[derive(Clone, Copy, Debug, PartialEq, Eq)]
+#[derive(Clone, Copy, PartialEq, Eq)]
 pub enum KeeperStop {
     Failed,
     OutOfMemory,

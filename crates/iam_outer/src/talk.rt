@@ -25,7 +25,7 @@ pub enum Step {
 }
 
 /// How a conversation ended.
-#[derive(Clone, Copy, Debug, PartialEq, Eq)]
+#[derive(Clone, Copy, PartialEq, Eq)]
 pub enum TalkEnd {
     Done,
     Cut,
@@ -38,7 +38,7 @@ pub enum TalkEnd {
 }
 
 /// A conversation: how it ended, and what its messages came to, in their order.
-#[derive(Clone, Debug, PartialEq, Eq, Drop)]
+#[derive(Drop)]
 pub struct Talk {
     pub end: TalkEnd,
     pub trace: List<Step>,

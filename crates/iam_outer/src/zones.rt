@@ -4,7 +4,7 @@ use crate::{List, Text};
 use std::alloc::Global;
 
 /// Time zones by name, each with the bytes of its TZif file (RFC 8536).
-#[derive(Debug, Drop)]
+#[derive(Drop)]
 pub struct Zones {
     pub named: List<(Text, List<u8>)>,
 }

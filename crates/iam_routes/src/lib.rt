@@ -11,8 +11,6 @@ mod line;
 mod message;
 mod place;
 mod route;
-#[cfg(test)]
-mod tests;
 
 pub use given::Asked;
 pub use laws::one_asking;

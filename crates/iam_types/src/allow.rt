@@ -1,7 +1,8 @@
 ghost use Rattle.std.specs.Prelude.{◌≡◌, IfOk};
 
 use iam_names::{Member, NodeId, RoleName};
-use iam_text::{List, OutOfMemory, Text};
+use iam_text::{List, Ordered, OutOfMemory, Text};
+use std::cmp::Ordering;
 
 /// An IAM condition: an expression of the Common Expression Language, with a title and a description.
 #[derive(Clone, Drop)]
@@ -25,6 +26,22 @@ pub struct AllowPolicy {
     pub node: NodeId,
     pub bindings: List<Binding>,
     pub set: u64,
+}
+
+// Policies stand by their nodes' names, in bytes.
+impl Ordered for AllowPolicy {
+    ghost use Rattle.std.specs.Cmp.Lexicographic.{on_texts, slice_cmp};
+    ghost use Rattle.std.specs.Ordering.{nat_cmp};
+    ghost use Rattle.iam_names.specs.Node.{node_id_text};
+    ghost use Rattle.iam_types.specs.declared.allow.AllowPolicy.{AllowPolicy};
+
+    ghost order = { λ a b. slice_cmp nat_cmp (node_id_text a.node) (node_id_text b.node) };
+
+    ghost total = { on_texts (λ (policy : AllowPolicy). node_id_text policy.node) };
+
+    fn order(&self, other: &AllowPolicy) -> Ordering {
+        self.node.name_order(other.node)
+    }
 }
 
 pub fn copy_condition(condition: &Condition) -> Result<Condition, OutOfMemory>

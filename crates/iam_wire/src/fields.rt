@@ -7,7 +7,7 @@ ghost use Rattle.iam_wire.specs.Found.{IsNamed};
 use httparse::spans::HeaderSpan;
 
 /// The value of a name that stands at most once.
-#[derive(Clone, Copy, Debug, PartialEq, Eq)]
+#[derive(Clone, Copy)]
 pub enum Named<'b> {
     Missing,
     Once(&'b [u8]),

@@ -11,8 +11,6 @@ mod message;
 mod number;
 mod plain;
 mod reply;
-#[cfg(test)]
-mod tests;
 
 pub use laws::{messages_in_turn, one_list_of_messages, one_plain_message};
 pub use message::{Field, Message};

@@ -1,7 +1,7 @@
 use iam_text::{List, Text};
 
 /// What a field of the project says. It is bad where it is repeated or isn't UTF-8.
-#[derive(Clone, Debug, PartialEq, Eq, Drop)]
+#[derive(Drop)]
 pub enum Field {
     Absent,
     One(Text),
@@ -9,7 +9,7 @@ pub enum Field {
 }
 
 /// A request.
-#[derive(Clone, Debug, PartialEq, Eq, Drop)]
+#[derive(Drop)]
 pub struct Message {
     pub method: Text,
     /// The target as it stands in the request line, not decoded.

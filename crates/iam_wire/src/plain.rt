@@ -24,7 +24,7 @@ const MAX_FIELDS: usize = 64;
 const MAX_LENGTH_DIGITS: usize = 7;
 
 /// A message of the plain form that was found at the front of bytes.
-#[derive(Clone, Debug, PartialEq, Eq, Drop)]
+#[derive(Drop)]
 pub struct PlainMessage {
     pub message: Message,
     /// How many bytes the message takes.

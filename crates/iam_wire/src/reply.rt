@@ -6,7 +6,7 @@ use std::alloc::{AllocError, Global};
 use std::fmt::Write;
 
 /// A reply: its code, the revision and the moment that it shows, and its body, which is JSON.
-#[derive(Clone, Debug, PartialEq, Eq, Drop)]
+#[derive(Drop)]
 pub struct Reply {
     pub code: u16,
     pub number: Option<u64>,

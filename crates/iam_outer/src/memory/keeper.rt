@@ -1,7 +1,7 @@
 ghost use Rattle.std.specs.Prelude.{◌≡◌, ◌↔◌, Some, IsErrOf, IfOk, OnOk, OnErr};
 ghost use Rattle.iam_text.specs.Put.{placed};
 ghost use Rattle.iam_outer.specs.Rows.{row_order, is_at, cut_row, after_write, after_writes, KeeperCause};
-ghost use Rattle.iam_outer.specs.Memory.{FailsNext, fresh};
+ghost use Rattle.iam_outer.specs.Memory.{FailsNext, failed, fresh, passed};
 
 use super::calls::Calls;
 use crate::{Keeper, KeeperStop, List, OutOfMemory, Row, RowWrite, Text};
@@ -116,6 +116,9 @@ impl Keeper for MemoryKeeper {
         ensures kept { Some (placed row_order self.new.rows) ≡ Some (placed row_order self.old.rows) }
         ensures cause { KeeperCause self.old.failing.faults self.new.failing.faults result }
         ensures fails { IsErrOf result KeeperStop.Failed ↔ FailsNext self.old.failing }
+        ensures at_fault { IsErrOf result KeeperStop.Failed → self.new ≡ record self.old { failing = failed self.old.failing } }
+        ensures at_no_memory { IsErrOf result KeeperStop.OutOfMemory → self.new ≡ record self.old { failing = passed self.old.failing } }
+        ensures at_ok { OnOk result (self.new ≡ record self.old { failing = passed self.old.failing }) }
         ensures same { Unit {0} }
     {
         if self.calls.fails(false) {
@@ -129,6 +132,9 @@ impl Keeper for MemoryKeeper {
         ensures err { OnErr result (Some (placed row_order self.new.rows) ≡ Some (placed row_order self.old.rows)) }
         ensures cause { KeeperCause self.old.failing.faults self.new.failing.faults result }
         ensures fails { IsErrOf result KeeperStop.Failed ↔ FailsNext self.old.failing }
+        ensures at_fault { IsErrOf result KeeperStop.Failed → self.new ≡ record self.old { failing = failed self.old.failing } }
+        ensures at_no_memory { IsErrOf result KeeperStop.OutOfMemory → self.new ≡ record self.old { failing = passed self.old.failing } }
+        ensures at_ok { OnOk result (self.new.failing ≡ passed self.old.failing) }
         ensures same { Unit {0} }
     {
         if self.calls.fails(false) {

@@ -1,16 +1,10 @@
-// The code and the body of each refusal, the names of limits and faults, and what bodies ask for, shown again.
-ghost use Rattle.std.specs.Prelude.{IfOk, IfSome};
-ghost use Rattle.iam_json.specs.Calls.{IsRoute};
-
-use crate::{
-    BodyStop, Call, Details, ErrorReply, Route, answer_body, code_of, error_body, read_call,
-    refusal_code,
-};
-use iam_names::{NodeName, PermissionName, RoleName};
-use iam_text::{List, OutOfMemory, Text};
-use iam_types::{Answer, Ask, Command, Fault, LimitName, Refusal};
+// The code and the body of each refusal, and the names of limits and faults.
+use crate::let_go;
+use iam_json::{Details, ErrorReply, answer_body, code_of, error_body, refusal_code};
+use iam_names::{PermissionName, RoleName};
+use iam_text::{OutOfMemory, Text};
+use iam_types::{Answer, Fault, LimitName, Refusal};
 use std::alloc::Global;
-use std::process::Abort;
 use std::test::Fail;
 
 /// The codes and the bodies of the refusals that the message alone or the outside gives, by their numbers.
@@ -88,9 +82,6 @@ fn outside(alloc: Global, number: u8) -> Result<Details, OutOfMemory> {
         },
     })
 }
-
-// Lets a value of any kind go.
-fn let_go<T: Drop>(_value: T) {}
 
 fn refused(alloc: Global, details: Details) -> Result<Text, OutOfMemory> {
     let reply = ErrorReply::of(details);
@@ -196,25 +187,21 @@ fn answered(alloc: Global, answer: Answer) -> Result<Text, OutOfMemory> {
     body
 }
 
+// A refusal as an answer.
+fn refused_so(alloc: Global, refusal: Refusal) -> Result<Text, OutOfMemory> {
+    let code = refusal_code(&refusal);
+    let body = answered(alloc, Answer::Refused(refusal))?;
+    Ok(Text::from(format!(in alloc; "{} {}", code, body.as_str())?))
+}
+
 #[test]
 fn refusals_of_states(rt: HostRuntime) -> Result<(), Fail> {
     let alloc = rt.alloc();
     for (place, wanted) in GIVEN.iter().enumerate() {
         let said = refused(alloc, Details::Refused(given(alloc, place)?))?;
         assert_eq!(rt; said.as_str(), *wanted);
-    }
-    Ok(())
-}
-
-#[test]
-fn refusals_as_answers(rt: HostRuntime) -> Result<(), Fail> {
-    let alloc = rt.alloc();
-    for (place, wanted) in GIVEN.iter().enumerate() {
-        let refusal = given(alloc, place)?;
-        let code = refusal_code(&refusal);
-        let body = answered(alloc, Answer::Refused(refusal))?;
-        let said = format!(in alloc; "{} {}", code, body.as_str())?;
-        assert_eq!(rt; said.as_str(), *wanted);
+        let answered = refused_so(alloc, given(alloc, place)?)?;
+        assert_eq!(rt; answered.as_str(), *wanted);
     }
     Ok(())
 }
@@ -256,213 +243,60 @@ static FAULTS: [(Fault, &str); 5] = [
 ];
 
 // A name, and what stands before and behind it.
-fn around(alloc: Global, before: &str, name: &str, behind: &str) -> Result<String, OutOfMemory> {
-    Ok(format!(in alloc; "{}{}{}", before, name, behind)?)
+fn around(alloc: Global, before: &str, name: &str, behind: &str) -> Result<Text, OutOfMemory> {
+    Ok(Text::from(format!(in alloc; "{}{}{}", before, name, behind)?))
+}
+
+fn limit_said(alloc: Global, which: LimitName) -> Result<Text, OutOfMemory> {
+    let refusal = Refusal::Limit {
+        counted: 2,
+        limit: 1,
+        which,
+    };
+    refused(alloc, Details::Refused(refusal))
+}
+
+fn limit_wanted(alloc: Global, name: &str) -> Result<Text, OutOfMemory> {
+    around(
+        alloc,
+        r#"429 {"error":{"code":429,"details":{"counted":2,"limit":1,"which":""#,
+        name,
+        r#""},"message":"LIMIT","status":"RESOURCE_EXHAUSTED"}}"#,
+    )
 }
 
 #[test]
 fn limits_are_named(rt: HostRuntime) -> Result<(), Fail> {
-    let alloc = rt.alloc();
     for (which, name) in &LIMITS {
-        let refusal = Refusal::Limit {
-            counted: 2,
-            limit: 1,
-            which: *which,
-        };
-        let said = refused(alloc, Details::Refused(refusal))?;
-        let wanted = around(
-            alloc,
-            r#"429 {"error":{"code":429,"details":{"counted":2,"limit":1,"which":""#,
-            name,
-            r#""},"message":"LIMIT","status":"RESOURCE_EXHAUSTED"}}"#,
-        )?;
-        assert_eq!(rt; said.as_str(), wanted.as_str());
+        let wanted = limit_wanted(rt.alloc(), name)?;
+        assert_eq!(rt; limit_said(rt.alloc(), *which)?.as_str(), wanted.as_str());
     }
     Ok(())
+}
+
+fn fault_said(alloc: Global, which: Fault) -> Result<Text, OutOfMemory> {
+    let refusal = Refusal::Hierarchy {
+        counted: 0,
+        limit: 0,
+        which,
+    };
+    refused(alloc, Details::Refused(refusal))
+}
+
+fn fault_wanted(alloc: Global, name: &str) -> Result<Text, OutOfMemory> {
+    around(
+        alloc,
+        r#"400 {"error":{"code":400,"details":{"counted":0,"limit":0,"which":""#,
+        name,
+        r#""},"message":"HIERARCHY","status":"FAILED_PRECONDITION"}}"#,
+    )
 }
 
 #[test]
 fn faults_are_named(rt: HostRuntime) -> Result<(), Fail> {
-    let alloc = rt.alloc();
     for (which, name) in &FAULTS {
-        let refusal = Refusal::Hierarchy {
-            counted: 0,
-            limit: 0,
-            which: *which,
-        };
-        let said = refused(alloc, Details::Refused(refusal))?;
-        let wanted = around(
-            alloc,
-            r#"400 {"error":{"code":400,"details":{"counted":0,"limit":0,"which":""#,
-            name,
-            r#""},"message":"HIERARCHY","status":"FAILED_PRECONDITION"}}"#,
-        )?;
-        assert_eq!(rt; said.as_str(), wanted.as_str());
-    }
-    Ok(())
-}
-
-/// Lines of the route table, bodies, and what these give there, shown as an answer that gives it back.
-static CALLS: [(u16, &[u8], &str); 22] = [
-    (1, br#"{"permissions":[]}"#, r#"{"permissions":[]}"#),
-    (
-        1,
-        br#"{"permissions":["a.b.c","d.e.f"],"more":0}"#,
-        r#"{"permissions":["a.b.c","d.e.f"]}"#,
-    ),
-    (1, b"", "bad: permissions"),
-    (1, b"[]", "bad: "),
-    (1, b"[", "no JSON"),
-    (
-        1,
-        br#"{"permissions":["a.b.c","a"]}"#,
-        "bad: permissions[1]",
-    ),
-    (
-        2,
-        b"",
-        r#"{"bindings":[],"etag":"AAAAAAAAAAA=","version":0}"#,
-    ),
-    (
-        2,
-        br#"{"options":null}"#,
-        r#"{"bindings":[],"etag":"AAAAAAAAAAA=","version":0}"#,
-    ),
-    (
-        2,
-        br#"{"options":{"requestedPolicyVersion":3}}"#,
-        r#"{"bindings":[],"etag":"AAAAAAAAAAA=","version":3}"#,
-    ),
-    (2, br#"{"options":[]}"#, "bad: options"),
-    (
-        2,
-        br#"{"options":{"requestedPolicyVersion":"3"}}"#,
-        "bad: options.requestedPolicyVersion",
-    ),
-    (
-        3,
-        br#"{"policy":{}}"#,
-        r#"{"bindings":[],"etag":"AAAAAAAAAAA=","version":0}"#,
-    ),
-    (
-        3,
-        br#"{"policy":{"auditConfigs":[],"bindings":[{"members":["user:bob@example.com"],"role":"roles/viewer"}],"etag":"AAAAAAAAAAE=","version":1}}"#,
-        r#"{"bindings":[{"members":["user:bob@example.com"],"role":"roles/viewer"}],"etag":"AAAAAAAAAAE=","version":1}"#,
-    ),
-    (3, b"", "bad: policy"),
-    (3, br#"{"policy":0}"#, "bad: policy"),
-    (3, br#"{"policy":{"version":-1}}"#, "bad: policy.version"),
-    (3, br#"{"policy":{"etag":""}}"#, "bad: policy.etag"),
-    (
-        3,
-        br#"{"policy":{"auditConfigs":[{}]}}"#,
-        "bad: policy.auditConfigs",
-    ),
-    (
-        3,
-        br#"{"policy":{"bindings":[{"role":"viewer"}]}}"#,
-        "bad: policy.bindings[0].role",
-    ),
-    (
-        3,
-        br#"{"policy":{"auditConfigs":0,"bindings":0,"etag":0,"version":[]}}"#,
-        "bad: policy.version",
-    ),
-    (
-        3,
-        br#"{"policy":{"auditConfigs":0,"bindings":0,"etag":0}}"#,
-        "bad: policy.etag",
-    ),
-    (
-        3,
-        br#"{"policy":{"auditConfigs":0,"bindings":0}}"#,
-        "bad: policy.bindings",
-    ),
-];
-
-// A line of organisation 1000, where it is one of the three.
-fn route_of(alloc: Global, number: u16) -> Result<Option<Route>, OutOfMemory>
-    ensures { IfOk result (λ read. IfSome read IsRoute) }
-{
-    let name = "organizations/1000";
-    let Some(_node) = NodeName::read(alloc, name)? else {
-        return Ok(None);
-    };
-    if number < 1 || 3 < number {
-        return Ok(None);
-    }
-    let mut parts = List::new(alloc);
-    parts.push(Text::of(alloc, name)?)?;
-    Ok(Some(Route {
-        number,
-        parts,
-        pairs: List::new(alloc),
-    }))
-}
-
-fn call_of(alloc: Global, number: u16, body: &[u8]) -> Result<Call, BodyStop> {
-    match route_of(alloc, number)? {
-        Some(route) => {
-            let call = read_call(alloc, &route, body);
-            let_go(route);
-            call
-        }
-        None => Err(BodyStop::BadJson),
-    }
-}
-
-fn given_back(alloc: Global, call: &Call) -> Result<Text, OutOfMemory> {
-    match call {
-        Call::Read(Ask::Test { permissions, .. }) => {
-            answered(alloc, Answer::Permissions(permissions.clone()?))
-        }
-        Call::Read(Ask::Policy { version, .. }) => answered(
-            alloc,
-            Answer::Policy {
-                bindings: List::new(alloc),
-                set: 0,
-                version: *version,
-            },
-        ),
-        Call::Write(
-            Command::SetAllow {
-                version,
-                etag,
-                bindings,
-                ..
-            },
-        ) => answered(
-            alloc,
-            Answer::Policy {
-                bindings: bindings.clone()?,
-                set: etag.unwrap_or(0),
-                version: *version,
-            },
-        ),
-        _ => Text::of(alloc, "another call"),
-    }
-}
-
-fn said(alloc: Global, number: u16, body: &[u8]) -> Result<Text, OutOfMemory> {
-    match call_of(alloc, number, body) {
-        Ok(call) => {
-            let text = given_back(alloc, &call);
-            let_go(call);
-            text
-        }
-        Err(BodyStop::BadJson) => Text::of(alloc, "no JSON"),
-        Err(BodyStop::BadField { path }) => {
-            Ok(Text::from(format!(in alloc; "bad: {}", path.as_str())?))
-        }
-        Err(BodyStop::OutOfMemory) => Err(OutOfMemory),
-    }
-}
-
-#[test]
-fn calls_are_read(rt: HostRuntime) -> Result<(), Fail> {
-    let alloc = rt.alloc();
-    for (number, body, wanted) in &CALLS {
-        assert_eq!(rt; said(alloc, *number, body)?.as_str(), *wanted);
+        let wanted = fault_wanted(rt.alloc(), name)?;
+        assert_eq!(rt; fault_said(rt.alloc(), *which)?.as_str(), wanted.as_str());
     }
     Ok(())
 }

@@ -1,5 +1,5 @@
 // Etags both ways, bodies and texts as they are printed, what is read shown again, and the paths of bad members.
-use crate::{
+use iam_json_data::{
     BodyStop, FromJson, ToJson, etag_number, etag_text, etag_value, list_value, read_absent,
     read_body, read_member, read_required, text_of,
 };

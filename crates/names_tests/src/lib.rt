@@ -1,0 +1,9 @@
+//! Tests of names, and of the outside in memory.
+//!
+//! No code stands beside them, so that no other proof is made again with theirs.
+#![tactic(auto)]
+
+#[cfg(test)]
+mod names;
+#[cfg(test)]
+mod outside;
