@@ -6,7 +6,10 @@ use Rattle.std.proofs.lemmas.List.Sums.{sum_by-cons}
 use Rattle.iam_names.specs.declared.member.Member.{Member}
 use Rattle.iam_types.specs.declared.allow.Binding.{Binding}
 use Rattle.iam_types.specs.declared.tables.Tables.{Tables}
-use Rattle.iam_model.specs.Good.{Good, IsStored, count_members, is_empty_list}
+use Rattle.iam_model.specs.Consistent.{Consistent}
+use Rattle.iam_model.specs.Formed.{IsStored}
+use Rattle.iam_model.specs.Policies.{count_members, is_empty_list}
+use Rattle.iam_model.proofs.Lists.{policies_formed}
 
 -- a list with members has one at least
 some_member : (members : List Member) → not (is_empty_list members) ≡ true → 1 ≤ length members
@@ -24,12 +27,12 @@ bindings_below_members (binding ∷ bindings) stored =
     rw sums (omega (arith, one, more))
 
 -- no policy has more bindings than a place can count
-pub good_is_countable : (tables : Tables) → Good tables → All (λ policy. length policy.bindings < 2 ^ 32) tables.allows
-good_is_countable tables good = λ k d within.
-    let stored = good.stored k d within in
-    let limit = good.limits.policies k d within in
+pub policies_countable : (tables : Tables) → Consistent tables → All (λ policy. length policy.bindings < 2 ^ 32) tables.allows
+policies_countable tables consistent = λ k d within.
+    let stored = (policies_formed tables consistent k d within).bindings in
+    let limit = consistent.keeps.limits.policies k d within in
     omega (arith, bindings_below_members _ stored, limit)
 
 -- one more change can be counted
-pub good_counts_changes : (tables : Tables) → Good tables → tables.org.changes + 1 < 2 ^ 64
-good_counts_changes tables good = let limit = good.limits.changes in omega (arith, limit)
+pub changes_countable : (tables : Tables) → Consistent tables → tables.org.changes + 1 < 2 ^ 64
+changes_countable tables consistent = let limit = consistent.keeps.limits.changes in omega (arith, limit)

@@ -1,39 +1,50 @@
--- A policy that is accepted keeps the tables good.
-use Rattle.std.proofs.Common.{◌≡◌, ℕ, suc, ◌+◌, ◌<◌, ◌≤◌, Bool, true, false, not, cond, List, [], ◌∷◌, ◌++◌, filter, length, Some, None, refl, sym, ap, subst, ◌∙◌, arith}
-use Rattle.std.specs.Prelude.{nat_lt}
+-- A policy that is set keeps the tables consistent.
+use Rattle.std.proofs.Common.{◌≡◌, ℕ, ◌+◌, ◌≤◌, true, false, not, cond, List, [], ◌∷◌, ◌++◌, filter, length, Some, None, refl, sym, ap, subst, ◌∙◌, arith}
+use Rattle.std.specs.Prelude.{is_none}
 use Rattle.std.specs.Bool.{◌==◌}
 use Rattle.std.specs.List.{All, find, flat_map}
-use Rattle.std.specs.Option.{option_map}
-use Rattle.std.specs.Cmp.{IsTotalOrder}
-use Rattle.std.proofs.lemmas.Bool.{leb-false, eq-eqb}
-use Rattle.std.proofs.lemmas.Cmp.{nat_list_cmp_total}
+use Rattle.std.specs.Ordering.{match_ordering}
+use Rattle.std.specs.Option.{option_map, option_map_or}
+use Rattle.std.specs.declared.option.Option.{Option}
+use Rattle.std.proofs.lemmas.Bool.{and_parts, eq-eqb, eqb-true}
+use Rattle.std.proofs.lemmas.Cmp.{nat_list_cmp_total, tied_itself}
 use Rattle.std.proofs.lemmas.List.Elements.{All-cons, All-head, All-tail, All-nil, All-filter, All-weaker}
 use Rattle.std.proofs.lemmas.List.Sums.{sum_by-cons}
-use Rattle.iam_text.proofs.InOrder.{All-put, put-IsInOrder}
-use Rattle.iam_names.specs.Node.{node_id_text}
+use Rattle.iam_text.specs.Put.{put}
+use Rattle.iam_text.specs.declared.moment.Moment.{Moment}
+use Rattle.iam_text.proofs.InOrder.{All-put}
+use Rattle.iam_names.specs.Node.{node_text}
+use Rattle.iam_names.specs.Number.{IsNodeNumber}
+use Rattle.iam_names.specs.declared.member.Member.{Member}
+use Rattle.iam_names.specs.declared.node.NodeKind.{NodeKind}
+use Rattle.iam_names.specs.declared.node.NodeKind.TheVariants.{Organization as AnOrganization, Folder as AFolder, Project as AProject}
 use Rattle.iam_names.specs.declared.node.NodeId.{NodeId}
 use Rattle.iam_names.specs.declared.node.NodeName.{NodeName}
 use Rattle.iam_names.specs.declared.node.NodeName.TheVariants.{Organization, Folder, ProjectNumber, ProjectId}
-use Rattle.iam_names.specs.declared.member.Member.{Member}
 use Rattle.iam_types.specs.declared.allow.AllowPolicy.{AllowPolicy}
 use Rattle.iam_types.specs.declared.allow.Binding.{Binding}
-use Rattle.iam_types.specs.declared.refusal.LimitName.{LimitName}
-use Rattle.iam_types.specs.declared.refusal.Refusal.TheVariants.{Limit, RoleUnknown}
+use Rattle.iam_types.specs.declared.fact.Fact.TheVariants as fact
+use Rattle.iam_types.specs.declared.fact.FactChange.TheVariants.{Put}
+use Rattle.iam_types.specs.declared.node.Org.{Org}
+use Rattle.iam_types.specs.declared.refusal.LimitName.TheVariants.{PolicyMembers, PolicyGroups, Members, Changes}
+use Rattle.iam_types.specs.declared.refusal.Refusal.TheVariants.{NotFound, RoleUnknown}
 use Rattle.iam_types.specs.declared.tables.Tables.{Tables}
-use Rattle.iam_model.specs.AdmitAllow.{beyond, unknown_role}
-use Rattle.iam_model.specs.ApplyAllow.{policy_after, set_policy}
-use Rattle.iam_model.specs.Entries.{IsGiven}
-use Rattle.iam_model.specs.Good.{Good, IsStored, POLICY_MEMBERS, POLICY_GROUPS, MEMBERS, CHANGES, count_members, count_groups, count_all_members, different, group_of, groups_in, has_members, is_empty_list, is_role}
+use Rattle.iam_model.specs.Allow.{IsGiven, late_rules, middle_rules, policy_after, set_allow, set_changes, set_policy, unknown_role}
+use Rattle.iam_model.specs.Consistent.{Consistent, Keeps}
+use Rattle.iam_model.specs.Facts.{fact_order, facts_of, sections_with, with_changes}
+use Rattle.iam_model.specs.Formed.{IsChange, IsOrgFact, IsStored}
+use Rattle.iam_model.specs.Limits.{limit_of}
 use Rattle.iam_model.specs.Nodes.{exists, organization_of, resolve}
-use Rattle.iam_model.specs.Order.{allow_order}
-
--- the order of policies is total
-pub allow_order_total : IsTotalOrder allow_order
-allow_order_total = record {
-  antisymm = λ a b. nat_list_cmp_total.antisymm (node_id_text a.node) (node_id_text b.node);
-  trans = λ a b c. nat_list_cmp_total.trans (node_id_text a.node) (node_id_text b.node) (node_id_text c.node);
-  congr = λ a b c. nat_list_cmp_total.congr (node_id_text a.node) (node_id_text b.node) (node_id_text c.node);
-}
+use Rattle.iam_model.specs.Part.{order_in}
+use Rattle.iam_model.specs.Parts.{allow_part, org_part}
+use Rattle.iam_model.specs.Policies.{count_all_members, count_groups, count_members, different, group_of, groups_in, has_members, is_empty_list, is_role}
+use Rattle.iam_model.specs.Refusals.{first_of, first_refusal, nothing_asked, refused_if}
+use Rattle.iam_model.specs.Same.{same_kind}
+use Rattle.iam_model.specs.Sections.{all_facts}
+use Rattle.iam_model.specs.Shared.{changed, missing}
+use Rattle.iam_model.proofs.Fitting.{Fine, Leads, fine, first_of-None, within_limit}
+use Rattle.iam_model.proofs.Lists.{org_formed}
+use Rattle.iam_model.proofs.Parts.{put_allow, put_org}
 
 -- a node that is found by a name exists
 pub resolved_exists : (tables : Tables) (name : NodeName) (node : NodeId) → resolve tables name ≡ Some node → exists tables node ≡ true
@@ -45,6 +56,23 @@ resolved_exists tables (Organization number) node found =
 resolved_exists tables (Folder number) node found = absurd (cc)
 resolved_exists tables (ProjectNumber number) node found = absurd (cc)
 resolved_exists tables (ProjectId id) node found = absurd (cc)
+
+kind_is_organization : (kind : NodeKind) → same_kind kind AnOrganization ≡ true → kind ≡ AnOrganization
+kind_is_organization AnOrganization h = refl
+kind_is_organization AFolder h = absurd (cc)
+kind_is_organization AProject h = absurd (cc)
+
+-- a node that exists is the organisation
+pub existing_node : (tables : Tables) (node : NodeId) → exists tables node ≡ true → (node.kind ≡ AnOrganization) × (node.number ≡ tables.org.number)
+existing_node tables node there =
+    let parts = and_parts (same_kind node.kind AnOrganization) (node.number == tables.org.number) there in
+    (kind_is_organization node.kind parts.0, eqb-true node.number tables.org.number parts.1)
+
+-- a node that isn't found is missing
+not_missing : (tables : Tables) (name : NodeName) → resolve tables name ≡ None → missing tables name ≡ None → ⊥
+not_missing tables name is fine =
+    let refused : refused_if true (NotFound (node_text name)) ≡ None = subst (λ (o : Option NodeId). refused_if (is_none o) (NotFound (node_text name)) ≡ None) is fine in
+    absurd (cc)
 
 -- what is kept of the given bindings can be stored
 pub kept_stored : (bindings : List Binding) → All IsGiven bindings → All IsStored (filter has_members bindings)
@@ -85,14 +113,6 @@ kept_groups (binding ∷ bindings) =
 kept_counts_groups : (bindings : List Binding) → count_groups (filter has_members bindings) ≡ count_groups bindings
 kept_counts_groups bindings = ap (λ (groups : List (List ℕ)). length (different groups)) (kept_groups bindings)
 
--- a limit that isn't exceeded
-pub within_limit : (counted limit : ℕ) (which : LimitName) → beyond counted limit which ≡ None → counted ≤ limit
-within_limit counted limit which fine = go (nat_lt limit counted) refl fine
-  where
-    go : (b : Bool) → nat_lt limit counted ≡ b → cond b (Some (Limit counted limit which)) None ≡ None → counted ≤ limit
-    go true is h = absurd (cc)
-    go false is h = let below : counted < suc limit = leb-false (suc limit) counted is in omega (arith, below)
-
 -- where no role is unknown, all are known
 known_roles : (tables : Tables) (bindings : List Binding) → unknown_role tables bindings ≡ None → All (λ binding. is_role tables binding.role ≡ true) bindings
 known_roles tables [] none = All-nil (λ (binding : Binding). is_role tables binding.role ≡ true)
@@ -102,41 +122,84 @@ known_roles tables (binding ∷ bindings) none =
       | false ↦ λ is h. absurd (cc)
     ] refl none
 
--- the tables with another policy
-pub set_keeps_good : (tables : Tables) (node : NodeId) (bindings : List Binding) → Good tables → All IsGiven bindings → exists tables node ≡ true
-    → unknown_role tables bindings ≡ None → count_members bindings ≤ POLICY_MEMBERS → count_groups bindings ≤ POLICY_GROUPS
-    → count_all_members (set_policy tables node bindings).allows ≤ MEMBERS → tables.org.changes + 1 ≤ CHANGES → Good (set_policy tables node bindings)
-set_keeps_good tables node bindings good given there roles few few_groups all_few changes =
+-- ---- the tables with another policy
+
+set_keeps : (tables : Tables) (node : NodeId) (bindings : List Binding) → Keeps tables → exists tables node ≡ true
+    → unknown_role tables bindings ≡ None → count_members bindings ≤ limit_of PolicyMembers → count_groups bindings ≤ limit_of PolicyGroups
+    → count_all_members (set_policy tables node bindings).allows ≤ limit_of Members → tables.org.changes + 1 ≤ limit_of Changes → Keeps (set_policy tables node bindings)
+set_keeps tables node bindings keeps there roles few few_groups all_few changes =
     let policy : AllowPolicy = policy_after tables node bindings in
     let counts : count_members (filter has_members bindings) ≤ count_members bindings = kept_counts bindings in
     record {
-      org = record { number = good.org.number; domain = good.org.domain; customer = good.org.customer };
-      stored = All-put (λ (p : AllowPolicy). All IsStored p.bindings) allow_order policy tables.allows (kept_stored bindings given) good.stored;
-      ordered = put-IsInOrder allow_order allow_order_total policy tables.allows good.ordered;
-      numbers = record { first = good.numbers.first; last = omega (arith, good.numbers.last) };
+      numbers = record { first = keeps.numbers.first; last = omega (arith, keeps.numbers.last) };
       policies = record {
-        nodes = All-put (λ (p : AllowPolicy). exists tables p.node ≡ true) allow_order policy tables.allows there good.policies.nodes;
-        roles = All-put (λ (p : AllowPolicy). All (λ (b : Binding). is_role tables b.role ≡ true) p.bindings) allow_order policy tables.allows
-            (All-filter has_members (λ (b : Binding). is_role tables b.role ≡ true) bindings (known_roles tables bindings roles)) good.policies.roles;
+        nodes = All-put (λ (p : AllowPolicy). exists tables p.node ≡ true) (order_in allow_part) policy tables.allows there keeps.policies.nodes;
+        roles = All-put (λ (p : AllowPolicy). All (λ (b : Binding). is_role tables b.role ≡ true) p.bindings) (order_in allow_part) policy tables.allows
+            (All-filter has_members (λ (b : Binding). is_role tables b.role ≡ true) bindings (known_roles tables bindings roles)) keeps.policies.roles;
       };
       limits = record {
-        policies = All-put (λ (p : AllowPolicy). count_members p.bindings ≤ POLICY_MEMBERS) allow_order policy tables.allows (omega (arith, counts, few)) good.limits.policies;
-        groups = All-put (λ (p : AllowPolicy). count_groups p.bindings ≤ POLICY_GROUPS) allow_order policy tables.allows (subst (λ (n : ℕ). n ≤ POLICY_GROUPS) (sym (kept_counts_groups bindings)) few_groups) good.limits.groups;
+        policies = All-put (λ (p : AllowPolicy). count_members p.bindings ≤ limit_of PolicyMembers) (order_in allow_part) policy tables.allows (omega (arith, counts, few)) keeps.limits.policies;
+        groups = All-put (λ (p : AllowPolicy). count_groups p.bindings ≤ limit_of PolicyGroups) (order_in allow_part) policy tables.allows (subst (λ (n : ℕ). n ≤ limit_of PolicyGroups) (sym (kept_counts_groups bindings)) few_groups) keeps.limits.groups;
         members = all_few;
         changes = changes;
       };
-      sets = All-put (λ (p : AllowPolicy). (1 ≤ p.set) × (p.set ≤ tables.org.changes + 1)) allow_order policy tables.allows (omega arith, omega arith)
-          (All-weaker (λ (p : AllowPolicy). (1 ≤ p.set) × (p.set ≤ tables.org.changes)) (λ (p : AllowPolicy). (1 ≤ p.set) × (p.set ≤ tables.org.changes + 1)) (λ p set. (set.0, omega (arith, set.1))) tables.allows good.sets);
-      nothing_else = record {
-        nodes = good.nothing_else.nodes;
-        keys = good.nothing_else.keys;
-        values = good.nothing_else.values;
-        tags = good.nothing_else.tags;
-        groups = good.nothing_else.groups;
-        edges = good.nothing_else.edges;
-        roles = good.nothing_else.roles;
-        denies = good.nothing_else.denies;
-        boundaries = good.nothing_else.boundaries;
-        bounds = good.nothing_else.bounds;
-      };
+      sets = All-put (λ (p : AllowPolicy). (1 ≤ p.set) × (p.set ≤ tables.org.changes + 1)) (order_in allow_part) policy tables.allows (omega arith, omega arith)
+          (All-weaker (λ (p : AllowPolicy). (1 ≤ p.set) × (p.set ≤ tables.org.changes)) (λ (p : AllowPolicy). (1 ≤ p.set) × (p.set ≤ tables.org.changes + 1)) (λ p set. (set.0, omega (arith, set.1))) tables.allows keeps.sets);
     }
+
+-- one more change is put over the organisation
+changed_put : (org : Org) → put (order_in org_part) (changed org) (org ∷ []) ≡ changed org ∷ []
+changed_put org = ap (λ o. match_ordering o (changed org ∷ org ∷ []) (changed org ∷ []) (org ∷ changed org ∷ [])) (tied_itself nat_list_cmp_total (org_part.key org))
+
+set_leads : (tables : Tables) (node : NodeId) (bindings : List Binding) → with_changes (facts_of tables) (set_changes tables node bindings) ≡ facts_of (set_policy tables node bindings)
+set_leads tables node bindings =
+    let policy : AllowPolicy = policy_after tables node bindings in
+    let put_there : Tables = record tables { allows = put (order_in allow_part) policy tables.allows } in
+    ap (put fact_order (fact.Org (changed tables.org))) (put_allow policy (tables.org ∷ []) tables)
+    ∙ put_org (changed tables.org) (tables.org ∷ []) put_there
+    ∙ ap (λ (orgs : List Org). all_facts (sections_with orgs put_there)) (changed_put tables.org)
+
+set_formed : (tables : Tables) (node : NodeId) (bindings : List Binding) → Consistent tables → exists tables node ≡ true → All IsGiven bindings → All IsChange (set_changes tables node bindings)
+set_formed tables node bindings consistent there given =
+    let is = existing_node tables node there in
+    let org : IsOrgFact tables.org = org_formed tables consistent in
+    let limit = consistent.keeps.limits.changes in
+    All-cons IsChange (Put (fact.Allow (policy_after tables node bindings))) (Put (fact.Org (changed tables.org)) ∷ [])
+    (record { kind = is.0; number = subst IsNodeNumber (sym is.1) org.formed.number; bindings = kept_stored bindings given; set = omega (arith, limit) })
+    (All-cons IsChange (Put (fact.Org (changed tables.org))) [] (record {
+      formed = record { number = org.formed.number; domain = org.formed.domain; customer = org.formed.customer };
+      next = org.next;
+      changes = omega (arith, limit);
+    }) (All-nil IsChange))
+
+-- what a fitting command leads to at a node that is there
+set_at : (tables : Tables) (node : NodeId) (bindings : List Binding) → Consistent tables → All IsGiven bindings → exists tables node ≡ true
+    → first_of (middle_rules tables bindings) ≡ None → first_of (late_rules tables node bindings) ≡ None → Leads tables (set_changes tables node bindings) (set_policy tables node bindings)
+set_at tables node bindings consistent given there middle late =
+    let roles = first_of-None _ _ middle in
+    let few = first_of-None _ _ roles.1 in
+    let groups = first_of-None _ _ few.1 in
+    let members = first_of-None _ _ late in
+    let changes = first_of-None _ _ members.1 in
+    record {
+      formed = set_formed tables node bindings consistent there given;
+      leads = set_leads tables node bindings;
+      keeps = set_keeps tables node bindings consistent.keeps there roles.0
+          (within_limit (count_members bindings) PolicyMembers few.0)
+          (within_limit (count_groups bindings) PolicyGroups groups.0)
+          (within_limit (count_all_members (set_policy tables node bindings).allows) Members members.0)
+          (within_limit (tables.org.changes + 1) Changes changes.0);
+      counted = refl;
+    }
+
+pub set_fits : (tables : Tables) (moment : Moment) (name : NodeName) (version : ℕ) (etag : Option ℕ) (bindings : List Binding) → Consistent tables → All IsGiven bindings
+    → first_refusal ((set_allow name version etag bindings).rules moment tables) nothing_asked ≡ None
+    → Leads tables ((set_allow name version etag bindings).changes moment tables) ((set_allow name version etag bindings).after moment tables)
+set_fits tables moment name version etag bindings consistent given fits =
+    let are : Fine ((set_allow name version etag bindings).rules moment tables) nothing_asked = fine ((set_allow name version etag bindings).rules moment tables) nothing_asked fits in
+    go (resolve tables name) refl (first_of-None (missing tables name) [] are.names).0 are.middle are.late
+  where
+    go : (o : Option NodeId) → resolve tables name ≡ o → missing tables name ≡ None → first_of (option_map_or (λ node. middle_rules tables bindings) o []) ≡ None → first_of (option_map_or (λ node. late_rules tables node bindings) o []) ≡ None
+        → Leads tables (option_map_or (λ node. set_changes tables node bindings) o []) (option_map_or (λ node. set_policy tables node bindings) o tables)
+    go None is there middle late = absurd (not_missing tables name is there)
+    go (Some node) is there middle late = set_at tables node bindings consistent given (resolved_exists tables name node is) middle late

@@ -1,9 +1,11 @@
 pub mod Counting
-pub mod Facts
+pub mod Fitting
 pub mod Given
-pub mod Histories
 pub mod KeepAllow
 pub mod Keeping
-pub mod Leading
+pub mod Lists
 pub mod Opens
-pub mod Puts
+pub mod Parted
+pub mod Parts
+pub mod Places
+pub mod Placing

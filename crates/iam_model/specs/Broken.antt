@@ -1,75 +1,37 @@
 -- Which rules facts break that are to be tables.
-use Rattle.std.specs.Prelude.{◌≡◌, ◌⊎◌, ℕ, false, List, [], ◌∷◌, All}
-use Rattle.iam_text.specs.Put.{placed}
-use Rattle.iam_types.specs.declared.allow.AllowPolicy.{AllowPolicy}
+use Rattle.std.specs.Prelude.{◌≡◌, ℕ, List, [], ◌∷◌}
 use Rattle.iam_types.specs.declared.fact.Fact.{Fact}
-use Rattle.iam_types.specs.declared.fact.Fact.TheVariants as fact
 use Rattle.iam_types.specs.declared.node.Org.{Org}
 use Rattle.iam_types.specs.declared.tables.Tables.{Tables}
-use Rattle.iam_model.specs.Facts.{same_place}
-use Rattle.iam_model.specs.Good.{NumbersFit, PoliciesStand, WithinLimits, SetByChanges}
-use Rattle.iam_model.specs.Order.{allow_order}
+use Rattle.iam_model.specs.Consistent.{Keeps, NumbersFit, PoliciesStand, SetByChanges, WithinLimits}
+use Rattle.iam_model.specs.Facts.{AreApart, tables_with}
+use Rattle.iam_model.specs.Part.{rows_in}
+use Rattle.iam_model.specs.Parts.{org_part}
 
--- the organisations among the facts
-abbrev pub orgs_in : List Fact → List Org
-orgs_in [] = []
-orgs_in (fact.Org org ∷ facts) = org ∷ orgs_in facts
-orgs_in (other ∷ facts) = orgs_in facts
+-- the one organisation of the facts
+abbrev pub IsOnlyOrg : List Fact → Org → Type 0
+IsOnlyOrg facts org = rows_in org_part facts ≡ org ∷ []
 
--- the allow policies among the facts
-abbrev pub policies_in : List Fact → List AllowPolicy
-policies_in [] = []
-policies_in (fact.Allow policy ∷ facts) = policy ∷ policies_in facts
-policies_in (other ∷ facts) = policies_in facts
-
--- the tables of an organisation and of facts, each list in its order
-abbrev pub tables_with : Org → List Fact → Tables
-tables_with org facts = record {
-  org = org;
-  nodes = [];
-  keys = [];
-  values = [];
-  tags = [];
-  groups = [];
-  edges = [];
-  roles = [];
-  allows = placed allow_order (policies_in facts);
-  denies = [];
-  boundaries = [];
-  bounds = [];
-}
-
--- rule 1: there is exactly one organisation
+-- there is exactly one organisation
 abbrev pub HasOneOrg : List Fact → Type 0
-HasOneOrg facts = (org : Org) × (orgs_in facts ≡ org ∷ [])
-
--- rule 2: no two facts have the same part and name
-abbrev pub AreApart : List Fact → Type 0
-AreApart [] = Unit {0}
-AreApart (first ∷ facts) = All (λ other. same_place first other ≡ false) facts × AreApart facts
-
--- The rules that are about tables, by their numbers. The others are about things that can't be stored yet.
-pub record Keeps (tables : Tables) : Type 0 where
-  pub rule_6 : NumbersFit tables
-  pub rule_10 : PoliciesStand tables
-  pub rule_13 : WithinLimits tables
-  pub rule_14 : SetByChanges tables
-
--- the first rule that the tables break, by its number
-abbrev pub IsFirstBrokenBy : Tables → ℕ → Type 0
-IsFirstBrokenBy tables rule =
-    ((rule ≡ 6) × ¬ NumbersFit tables)
-    ⊎ (NumbersFit tables × (((rule ≡ 10) × ¬ PoliciesStand tables)
-    ⊎ (PoliciesStand tables × (((rule ≡ 13) × ¬ WithinLimits tables)
-    ⊎ (WithinLimits tables × ((rule ≡ 14) × ¬ SetByChanges tables))))))
+HasOneOrg facts = (org : Org) × IsOnlyOrg facts org
 
 -- the facts give these tables, which keep all rules
-abbrev pub GiveTables : List Fact → Tables → Type 0
-GiveTables facts tables = AreApart facts × ((org : Org) × (orgs_in facts ≡ org ∷ []) × (tables ≡ tables_with org facts)) × Keeps tables
+pub record GiveTables (facts : List Fact) (tables : Tables) : Type 0 where
+  pub org : IsOnlyOrg facts tables.org
+  pub apart : AreApart facts
+  pub lists : tables ≡ tables_with tables.org facts
+  pub keeps : Keeps tables
 
--- the first rule that the facts break, by its number
-abbrev pub IsFirstBroken : List Fact → ℕ → Type 0
-IsFirstBroken facts rule =
-    ((rule ≡ 1) × ¬ HasOneOrg facts)
-    ⊎ (HasOneOrg facts × (((rule ≡ 2) × ¬ AreApart facts)
-    ⊎ (AreApart facts × ((org : Org) × (orgs_in facts ≡ org ∷ []) × IsFirstBrokenBy (tables_with org facts) rule))))
+-- the first rule that tables break, by its number
+pub data IsFirstBrokenBy (tables : Tables) : ℕ → Type 0 where
+  numbers : ¬ NumbersFit tables → IsFirstBrokenBy tables 6
+  policies : NumbersFit tables → ¬ PoliciesStand tables → IsFirstBrokenBy tables 10
+  limits : NumbersFit tables → PoliciesStand tables → ¬ WithinLimits tables → IsFirstBrokenBy tables 13
+  sets : NumbersFit tables → PoliciesStand tables → WithinLimits tables → ¬ SetByChanges tables → IsFirstBrokenBy tables 14
+
+-- the first rule that facts break, by its number
+pub data IsFirstBroken (facts : List Fact) : ℕ → Type 0 where
+  one_org : ¬ HasOneOrg facts → IsFirstBroken facts 1
+  apart : HasOneOrg facts → ¬ AreApart facts → IsFirstBroken facts 2
+  tables : {org : Org} {rule : ℕ} → IsOnlyOrg facts org → AreApart facts → IsFirstBrokenBy (tables_with org facts) rule → IsFirstBroken facts rule

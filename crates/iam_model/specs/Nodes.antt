@@ -5,11 +5,15 @@ use Rattle.iam_names.specs.declared.node.NodeKind.TheVariants.{Organization as A
 use Rattle.iam_names.specs.declared.node.NodeId.{NodeId}
 use Rattle.iam_names.specs.declared.node.NodeName.{NodeName}
 use Rattle.iam_names.specs.declared.node.NodeName.TheVariants.{Organization, Folder, ProjectNumber, ProjectId}
+use Rattle.iam_types.specs.declared.node.Org.{Org}
 use Rattle.iam_types.specs.declared.tables.Tables.{Tables}
 use Rattle.iam_model.specs.Same.{same_node}
 
+abbrev pub node_of_org : Org → NodeId
+node_of_org org = record { kind = AnOrganization; number = org.number }
+
 abbrev pub organization_of : Tables → NodeId
-organization_of tables = record { kind = AnOrganization; number = tables.org.number }
+organization_of tables = node_of_org tables.org
 
 abbrev pub exists : Tables → NodeId → Bool
 exists tables node = same_node node (organization_of tables)

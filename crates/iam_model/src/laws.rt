@@ -1,37 +1,25 @@
 ghost use Rattle.std.specs.Prelude.{◌≡◌, ◌↔◌, ℕ, ◌+◌, ◌++◌, ◌∷◌, [], ◌<◌, ◌^◌, List, Some, None, All, Contains, length, map};
 ghost use Rattle.iam_text.specs.Put.{placed, IsInOrder};
-ghost use Rattle.iam_names.specs.declared.node.NodeId.{NodeId};
-ghost use Rattle.iam_names.specs.declared.node.NodeName.{NodeName};
 ghost use Rattle.iam_names.specs.declared.node.NodeName.TheVariants.{Organization};
-ghost use Rattle.iam_types.specs.declared.allow.Binding.{Binding};
+ghost use Rattle.iam_types.specs.declared.command.Entry.{Entry};
 ghost use Rattle.iam_types.specs.declared.fact.Fact.{Fact};
+ghost use Rattle.iam_types.specs.declared.fact.Fact.TheVariants.{Allow, Org as OrgOf};
 ghost use Rattle.iam_types.specs.declared.fact.FactChange.TheVariants.{Put};
 ghost use Rattle.iam_types.specs.declared.node.Org.{Org};
-ghost use Rattle.iam_types.specs.declared.query.Query.{Query};
 ghost use Rattle.iam_types.specs.declared.tables.Opening.{Opening};
 ghost use Rattle.iam_types.specs.declared.tables.Tables.{Tables};
-ghost use Rattle.iam_types.specs.declared.command.Entry.{Entry};
-ghost use Rattle.iam_model.specs.Admit.{admission};
-ghost use Rattle.iam_model.specs.Apply.{after};
-ghost use Rattle.iam_model.specs.ApplyAllow.{after_set_allow};
-ghost use Rattle.iam_model.specs.Broken.{AreApart, GiveTables, IsFirstBroken, orgs_in, tables_with};
-ghost use Rattle.iam_model.specs.Entries.{IsEntry, IsGiven};
-ghost use Rattle.iam_model.specs.Facts.{IsChange, IsFact, fact_order, facts_of, set_changes, with_changes};
-ghost use Rattle.iam_model.specs.Decide.{binding_grants, leading};
-ghost use Rattle.iam_model.specs.First.{IsFirstOf};
-ghost use Rattle.iam_model.specs.Good.{Good};
-ghost use Rattle.iam_model.specs.History.{state, Legal};
+ghost use Rattle.iam_model.specs.Broken.{GiveTables, IsFirstBroken, IsOnlyOrg};
+ghost use Rattle.iam_model.specs.Commands.{IsEntry, after, changes_of, fits};
+ghost use Rattle.iam_model.specs.Consistent.{Consistent, NothingElse};
+ghost use Rattle.iam_model.specs.Facts.{AreApart, fact_order, facts_of, tables_with, with_changes};
+ghost use Rattle.iam_model.specs.Formed.{IsChange, IsFact, IsPolicyFact};
 ghost use Rattle.iam_model.specs.Nodes.{organization_of, resolve};
 ghost use Rattle.iam_model.specs.Opening.{IsOpening, opening_tables};
-
-/// The grant of a policy is its first binding that grants, by the role's text in bytes and then by place.
-pub fn grants_are_first()
-    ensures { (tables : Tables) (query : Query) (bindings : List Binding) → IsFirstOf (binding_grants tables query) bindings (leading (binding_grants tables query) None 0 bindings) }
-{}
+ghost use Rattle.iam_model.specs.Refusals.{Asked, Rules, first_refusal, nothing_asked};
 
 /// The opening's tables keep all rules.
-pub fn openings_are_good()
-    ensures { (opening : Opening) → IsOpening opening → Good (opening_tables opening) }
+pub fn openings_are_consistent()
+    ensures { (opening : Opening) → IsOpening opening → Consistent (opening_tables opening) }
 {}
 
 /// The organisation is found by its name.
@@ -39,50 +27,64 @@ pub fn organization_is_named()
     ensures { (tables : Tables) → resolve tables (Organization tables.org.number) ≡ Some (organization_of tables) }
 {}
 
-/// No policy has more bindings than a place can count.
-pub fn policies_are_countable()
-    ensures { (tables : Tables) → Good tables → All (λ policy. length policy.bindings < 2 ^ 32) tables.allows }
+/// The policies of consistent tables are well formed.
+pub fn policies_are_formed()
+    ensures { (tables : Tables) → Consistent tables → All IsPolicyFact tables.allows }
 {}
 
-/// An accepted change keeps the tables good.
-pub fn changes_keep_good()
-    ensures { (tables : Tables) (entry : Entry) → Good tables → IsEntry entry → admission tables entry ≡ None → Good (after tables entry) }
+/// No policy has more bindings than a place can count.
+pub fn policies_are_countable()
+    ensures { (tables : Tables) → Consistent tables → All (λ policy. length policy.bindings < 2 ^ 32) tables.allows }
 {}
 
 /// One more change can be counted.
 pub fn changes_are_countable()
-    ensures { (tables : Tables) → Good tables → tables.org.changes + 1 < 2 ^ 64 }
+    ensures { (tables : Tables) → Consistent tables → tables.org.changes + 1 < 2 ^ 64 }
 {}
 
-/// The tables after a legal history are good.
-pub fn histories_keep_good()
-    ensures { (tables : Tables) (entries : List Entry) → Legal tables entries → Good (state tables entries) }
+/// A rule that isn't tried refuses nothing: what passes all groups passes those of the tables alone.
+pub fn accepted_rules_fit()
+    ensures { (rules : Rules) (asked : Asked) → first_refusal rules asked ≡ None → first_refusal rules nothing_asked ≡ None }
 {}
 
-/// An entry that is accepted after a legal history makes it longer by one.
-pub fn histories_grow()
-    ensures legal { (tables : Tables) (entries : List Entry) (entry : Entry) → Legal tables entries → IsEntry entry → admission (state tables entries) entry ≡ None → Legal tables (entries ++ entry ∷ []) }
-    ensures grown { (tables : Tables) (entries : List Entry) (entry : Entry) → state tables (entries ++ entry ∷ []) ≡ after (state tables entries) entry }
+/// A change that fits keeps the tables consistent.
+pub fn changes_keep_consistent()
+    ensures { (tables : Tables) (entry : Entry) → Consistent tables → IsEntry entry → fits tables entry ≡ None → Consistent (after tables entry) }
 {}
 
-/// The number of a state is that of the tables at first and the length of the history.
-pub fn histories_are_counted()
-    ensures { (tables : Tables) (entries : List Entry) → Legal tables entries → (state tables entries).org.changes ≡ tables.org.changes + length entries }
+/// A change that fits is one more.
+pub fn changes_are_counted()
+    ensures { (tables : Tables) (entry : Entry) → Consistent tables → IsEntry entry → fits tables entry ≡ None → (after tables entry).org.changes ≡ tables.org.changes + 1 }
 {}
 
-/// The facts of good tables are well formed.
-pub fn facts_are_formed()
-    ensures { (tables : Tables) → Good tables → All IsFact (facts_of tables) }
+/// The changes of facts lead from the facts before a change that fits to those after it.
+pub fn changes_lead()
+    ensures { (tables : Tables) (entry : Entry) → Consistent tables → IsEntry entry → fits tables entry ≡ None → with_changes (facts_of tables) (changes_of tables entry) ≡ facts_of (after tables entry) }
 {}
 
-/// The facts of good tables are in the order of rows, at most one of a part and name.
-pub fn facts_are_in_order()
-    ensures { (tables : Tables) → Good tables → IsInOrder fact_order (facts_of tables) }
+/// The facts that a change that fits puts and cuts are well formed.
+pub fn changes_are_formed()
+    ensures { (tables : Tables) (entry : Entry) → Consistent tables → IsEntry entry → fits tables entry ≡ None → All IsChange (changes_of tables entry) }
 {}
 
-/// Good tables are told by their facts.
+/// Policies and the organisation are all that is kept yet.
+pub fn nothing_else_is_kept()
+    ensures { (tables : Tables) → Consistent tables → NothingElse tables }
+{}
+
+/// Well formed facts give policies and the organisation alone.
+pub fn nothing_else_is_given()
+    ensures { (facts : List Fact) (org : Org) → All IsFact facts → NothingElse (tables_with org facts) }
+{}
+
+/// Policies and the organisation are all facts yet.
+pub fn facts_are_few()
+    ensures { (tables : Tables) → Consistent tables → facts_of tables ≡ map (λ policy. Allow policy) tables.allows ++ OrgOf tables.org ∷ [] }
+{}
+
+/// Tables are told by their facts.
 pub fn facts_tell_tables()
-    ensures { (a b : Tables) → Good a → Good b → facts_of a ≡ facts_of b → a ≡ b }
+    ensures { (a b : Tables) → facts_of a ≡ facts_of b → a ≡ b }
 {}
 
 /// Facts in order are in their places, at most one in each.
@@ -95,24 +97,14 @@ pub fn facts_are_put()
     ensures { (facts : List Fact) → IsInOrder fact_order facts → with_changes [] (map Put facts) ≡ facts }
 {}
 
-/// What the setting of a policy changes leads from the facts before it to those after it.
-pub fn set_changes_lead()
-    ensures { (tables : Tables) (name : NodeName) (node : NodeId) (bindings : List Binding) → resolve tables name ≡ Some node → with_changes (facts_of tables) (set_changes tables node bindings) ≡ facts_of (after_set_allow tables name bindings) }
+/// Well formed facts that give tables give consistent ones, whose facts are those in their places.
+pub fn given_tables_are_consistent()
+    ensures { (facts : List Fact) (tables : Tables) → All IsFact facts → GiveTables facts tables → Consistent tables × (facts_of tables ≡ placed fact_order facts) }
 {}
 
-/// The facts that the setting of a policy puts are well formed.
-pub fn set_changes_are_formed()
-    ensures { (tables : Tables) (name : NodeName) (node : NodeId) (bindings : List Binding) → Good tables → resolve tables name ≡ Some node → All IsGiven bindings → All IsChange (set_changes tables node bindings) }
-{}
-
-/// Well formed facts that give tables give good ones, whose facts are those in their places.
-pub fn given_tables_are_good()
-    ensures { (facts : List Fact) (tables : Tables) → All IsFact facts → GiveTables facts tables → Good tables × (facts_of tables ≡ placed fact_order facts) }
-{}
-
-/// The facts of good tables give them back, in any order.
-pub fn good_tables_are_given()
-    ensures { (facts : List Fact) (tables : Tables) → Good tables → AreApart facts → ((fact : Fact) → Contains facts fact ↔ Contains (facts_of tables) fact) → GiveTables facts tables }
+/// The facts of consistent tables give them back, in any order.
+pub fn consistent_tables_are_given()
+    ensures { (facts : List Fact) (tables : Tables) → Consistent tables → AreApart facts → ((fact : Fact) → Contains facts fact ↔ Contains (facts_of tables) fact) → GiveTables facts tables }
 {}
 
 /// Facts that break a rule give no tables.
@@ -122,7 +114,7 @@ pub fn broken_facts_give_none()
 
 /// The facts of the tables with an organisation and facts are the facts in their places.
 pub fn tables_have_placed_facts()
-    ensures { (facts : List Fact) (org : Org) → All IsFact facts → orgs_in facts ≡ org ∷ [] → facts_of (tables_with org facts) ≡ placed fact_order facts }
+    ensures { (facts : List Fact) (org : Org) → IsOnlyOrg facts org → facts_of (tables_with org facts) ≡ placed fact_order facts }
 {}
 
 /// Facts are apart exactly where each has a place of its own.

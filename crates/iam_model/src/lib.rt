@@ -1,15 +1,17 @@
-//! What the plain types mean: the catalogue, the opening, who is held by a member, what a role grants, the
-//! decision, and what holds of the tables at every moment.
+//! What the tables alone tell: the catalogue, the opening, who is held by a member, what a role grants, the facts
+//! of the tables, what holds of them at every moment, and what each command means.
 //!
 //! The definitions stand in `specs/`. The functions here have no code: their contracts are laws of the definitions.
+//! What conditions, decisions and admission are is defined above, in `iam_law`.
 #![tactic(auto)]
 
 mod laws;
 
 pub use laws::{
-    apart_facts_are_counted, broken_facts_give_none, changes_are_countable, changes_keep_good,
-    facts_are_formed, facts_are_in_order, facts_are_put, facts_tell_tables, given_tables_are_good,
-    good_tables_are_given, grants_are_first, histories_are_counted, histories_grow,
-    histories_keep_good, openings_are_good, ordered_facts_are_placed, organization_is_named,
-    policies_are_countable, set_changes_are_formed, set_changes_lead, tables_have_placed_facts,
+    accepted_rules_fit, apart_facts_are_counted, broken_facts_give_none, changes_are_countable,
+    changes_are_counted, changes_are_formed, changes_keep_consistent, changes_lead,
+    consistent_tables_are_given, facts_are_few, facts_are_put, facts_tell_tables,
+    given_tables_are_consistent, nothing_else_is_given, nothing_else_is_kept,
+    openings_are_consistent, ordered_facts_are_placed, organization_is_named,
+    policies_are_countable, policies_are_formed, tables_have_placed_facts,
 };

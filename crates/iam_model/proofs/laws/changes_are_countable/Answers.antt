@@ -1,5 +1,5 @@
-use Rattle.iam_model.proofs.Counting.{good_counts_changes}
+use Rattle.iam_model.proofs.Counting.{changes_countable}
 use Rattle.iam_model.proofs.laws.changes_are_countable.Goals as goal
 
 pub returns : goal.returns
-returns c = good_counts_changes
+returns c = changes_countable

@@ -1,4 +1,4 @@
-use Rattle.iam_model.proofs.Puts.{all_put}
+use Rattle.iam_model.proofs.Places.{all_put}
 use Rattle.iam_model.proofs.laws.facts_are_put.Goals as goal
 
 pub returns : goal.returns

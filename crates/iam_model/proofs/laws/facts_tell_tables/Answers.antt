@@ -1,4 +1,4 @@
-use Rattle.iam_model.proofs.Facts.{told}
+use Rattle.iam_model.proofs.Parts.{told}
 use Rattle.iam_model.proofs.laws.facts_tell_tables.Goals as goal
 
 pub returns : goal.returns

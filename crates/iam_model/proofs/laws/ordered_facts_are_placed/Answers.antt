@@ -1,4 +1,4 @@
-use Rattle.iam_model.proofs.Puts.{ordered_placed}
+use Rattle.iam_model.proofs.Places.{ordered_placed}
 use Rattle.iam_model.proofs.laws.ordered_facts_are_placed.Goals as goal
 
 pub returns : goal.returns

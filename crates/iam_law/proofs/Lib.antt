@@ -1,0 +1,5 @@
+pub mod Conditions
+pub mod Elements
+pub mod Histories
+pub mod Modified
+pub mod Turns

@@ -1,0 +1,9 @@
+pub mod Admit
+pub mod Asked
+pub mod Decide
+pub mod First
+pub mod Good
+pub mod History
+pub mod Modified
+pub mod ResourceFacts
+pub mod Shown
