@@ -1,12 +1,12 @@
 -- The permissions of the settings of policies are in the catalogue.
-use Rattle.std.specs.Prelude.{IsTrue}
+use Rattle.std.specs.Prelude.{IsTrue, codes}
 use Rattle.std.proofs.Common.{refl}
 use Rattle.iam_names.specs.declared.node.NodeKind.{NodeKind}
 use Rattle.iam_names.specs.declared.node.NodeKind.TheVariants.{Organization, Folder, Project}
 use Rattle.iam_model.specs.Catalogue.{is_permission, lines, permits}
-use Rattle.iam_model.specs.AdmitAllow.{set_permission}
+use Rattle.iam_law.specs.Asked.{permission_at}
 
-pub set_is_known : (kind : NodeKind) → IsTrue (is_permission (set_permission kind))
+pub set_is_known : (kind : NodeKind) → IsTrue (is_permission (permission_at kind (codes "setIamPolicy")))
 unfolding lines permits
 set_is_known Organization = refl
 set_is_known Folder = refl

@@ -3,7 +3,7 @@ use Rattle.std.specs.Prelude.{◌≡◌, List}
 use Rattle.iam_types.specs.declared.command.Entry.{Entry}
 use Rattle.iam_types.specs.declared.fact.FactChange.{FactChange}
 use Rattle.iam_types.specs.declared.tables.Tables.{Tables}
-use Rattle.iam_model.specs.Apply.{after}
+use Rattle.iam_model.specs.Commands.{after}
 use Rattle.iam_model.specs.Facts.{facts_of, with_changes}
 
 -- the changes lead from the facts before the entry to those after it

@@ -1,14 +1,16 @@
 // Whether an entry is accepted.
 ghost use Rattle.std.specs.Prelude.{◌≡◌, All, IfOk, IfErr, Some, None};
-ghost use Rattle.iam_model.specs.Admit.{admission};
-ghost use Rattle.iam_model.specs.Entries.{IsEntry};
-ghost use Rattle.iam_model.specs.Facts.{IsChange};
+ghost use Rattle.iam_model.specs.Commands.{IsEntry, changes_of as the_changes};
+ghost use Rattle.iam_model.specs.Formed.{IsChange};
+ghost use Rattle.iam_law.specs.Admit.{admission};
 ghost use Rattle.iam_admit.specs.Facts.{LeadTo};
 ghost use Rattle.iam_admit.specs.Follows.{Follows};
 
 use crate::allow::set_allow;
 use crate::stop::AdmitStop;
 use iam_judge::Index;
+use iam_law::accepted_entries_fit;
+use iam_model::{changes_are_formed, changes_lead};
 use iam_tables::{Command, Entry, FactChange, Refusal};
 use iam_text::{List, OutOfMemory};
 use std::alloc::Global;
@@ -21,10 +23,8 @@ pub struct Accepted {
 
 // The changes of an entry that is accepted. The commands that can't be given yet change nothing.
 fn changes_of(alloc: Global, index: &Index, entry: &Entry) -> Result<List<FactChange>, AdmitStop>
-    requires { IsEntry entry.now }
     ensures follows { Follows result (admission index.now entry.now) }
-    ensures formed { IfOk result (λ changes. All IsChange changes) }
-    ensures changes { IfOk result (LeadTo index.now entry.now) }
+    ensures changes { IfOk result (λ changes. changes ≡ the_changes index.now entry.now) }
 {
     match &entry.command {
         Command::SetAllow {
@@ -42,7 +42,34 @@ fn changes_of(alloc: Global, index: &Index, entry: &Entry) -> Result<List<FactCh
             *etag,
             bindings,
         ),
-        _ => Ok(List::new(alloc)),
+        Command::CreateFolder { .. }
+        | Command::RenameFolder { .. }
+        | Command::CreateProject { .. }
+        | Command::Move { .. }
+        | Command::DeleteNode { .. }
+        | Command::UndeleteNode { .. }
+        | Command::CreateTagKey { .. }
+        | Command::DeleteTagKey { .. }
+        | Command::CreateTagValue { .. }
+        | Command::DeleteTagValue { .. }
+        | Command::BindTag { .. }
+        | Command::UnbindTag { .. }
+        | Command::CreateGroup { .. }
+        | Command::DeleteGroup { .. }
+        | Command::AddMember { .. }
+        | Command::RemoveMember { .. }
+        | Command::CreateRole { .. }
+        | Command::UpdateRole { .. }
+        | Command::DeleteRole { .. }
+        | Command::UndeleteRole { .. }
+        | Command::CreateDeny { .. }
+        | Command::UpdateDeny { .. }
+        | Command::DeleteDeny { .. }
+        | Command::CreateBoundary { .. }
+        | Command::UpdateBoundary { .. }
+        | Command::DeleteBoundary { .. }
+        | Command::CreateBound { .. }
+        | Command::DeleteBound { .. } => Ok(List::new(alloc)),
     }
 }
 
@@ -58,6 +85,10 @@ pub fn admit(
     ensures formed { IfOk result (λ judged. IfOk judged (λ accepted. All IsChange accepted.changes)) }
     ensures changes { IfOk result (λ judged. IfOk judged (λ accepted. LeadTo index.now entry.now accepted.changes)) }
 {
+    accepted_entries_fit();
+    changes_lead();
+    changes_are_formed();
+    let _tables = index.tables();
     match changes_of(alloc, index, entry) {
         Ok(changes) => Ok(Ok(Accepted { changes })),
         Err(AdmitStop::Refused(refusal)) => Ok(Err(refusal)),

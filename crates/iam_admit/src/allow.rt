@@ -1,13 +1,15 @@
 // The rules of the setting of an allow policy, a function each.
-ghost use Rattle.std.specs.Prelude.{◌≡◌, ◌+◌, ◌<◌, ◌^◌, not, All, IfOk};
+ghost use Rattle.std.specs.Prelude.{◌≡◌, ◌+◌, ◌<◌, ◌^◌, not, IfOk, Some};
 ghost use Rattle.std.specs.List.{find};
 ghost use Rattle.std.specs.Option.{option_copied};
-ghost use Rattle.iam_model.specs.AdmitAllow.{any_conditional as has_conditions, bindings_at, etag_of as the_etag, is_wrong_version as is_wrong, later_rules, needs_third as third_is_needed, other_etag, set_allow_rules, unknown_role, wrong_version};
-ghost use Rattle.iam_model.specs.ApplyAllow.{after_set_allow};
-ghost use Rattle.iam_model.specs.Entries.{IsGiven};
-ghost use Rattle.iam_model.specs.Facts.{IsChange, facts_of as facts_of_tables, with_changes};
-ghost use Rattle.iam_model.specs.Good.{is_role as role_is_known};
-ghost use Rattle.iam_model.specs.Refusals.{first_of};
+ghost use Rattle.iam_types.specs.declared.refusal.LimitName.TheVariants.{Members, PolicyGroups, PolicyMembers};
+ghost use Rattle.iam_model.specs.Allow.{is_wrong_version as is_wrong, needs_third as third_is_needed, set_allow as setting, set_policy, unknown_role, wrong_version};
+ghost use Rattle.iam_model.specs.Limits.{beyond};
+ghost use Rattle.iam_model.specs.Nodes.{resolve as node_named};
+ghost use Rattle.iam_model.specs.Policies.{any_conditional as has_conditions, count_all_members as all_members_in, count_groups as groups_in, count_members as members_in, etag_of as the_etag, is_role as role_is_known};
+ghost use Rattle.iam_model.specs.Refusals.{first_refusal};
+ghost use Rattle.iam_model.specs.Shared.{many_changes, other_etag};
+ghost use Rattle.iam_law.specs.Admit.{asked_of_set_allow};
 ghost use Rattle.iam_admit.specs.Follows.{Follows};
 
 use crate::changes::set_changes;
@@ -15,27 +17,18 @@ use crate::queries::may_set;
 use crate::rules::{found, within};
 use crate::stop::AdmitStop;
 use iam_judge::Index;
-use iam_model::{changes_are_countable, set_changes_are_formed, set_changes_lead};
+use iam_model::changes_are_countable;
 use iam_names::{Caller, NodeId, NodeName, copy_role_name};
 use iam_tables::{
-    Binding, CHANGES, Catalogue, FactChange, LimitName, MEMBERS, POLICY_GROUPS, POLICY_MEMBERS,
-    Refusal, Tables, count_groups, count_members, is_role, is_version, members_after, policy_of,
+    Binding, Catalogue, FactChange, LimitName, Refusal, Tables, bindings_at, count_groups,
+    count_members, etag_of, is_role, is_version, members_after,
 };
 use iam_text::{List, Moment};
 use std::alloc::Global;
 
-fn etag_of(tables: &Tables, node: NodeId) -> u64
-    ensures { result ≡ the_etag tables.now node }
-{
-    match policy_of(tables, node) {
-        Some(policy) => policy.set,
-        None => 0,
-    }
-}
-
 // The etag, where one is given, is the policy's.
 fn has_etag(tables: &Tables, node: NodeId, etag: Option<u64>) -> Result<(), AdmitStop>
-    ensures { Follows result (other_etag tables.now node etag) }
+    ensures { Follows result (other_etag (the_etag tables.now node) etag) }
 {
     let Some(given) = etag else {
         return Ok(());
@@ -53,20 +46,11 @@ fn any_conditional(bindings: &[Binding]) -> bool
     bindings.iter().any(|binding| binding.condition.is_some())
 }
 
-fn any_stored_conditional(tables: &Tables, node: NodeId) -> bool
-    ensures { result ≡ has_conditions (bindings_at tables.now node) }
-{
-    match policy_of(tables, node) {
-        Some(policy) => any_conditional(policy.bindings.as_slice()),
-        None => false,
-    }
-}
-
 // The write gives a condition, or it was read with its etag where one is stored.
 fn needs_third(tables: &Tables, node: NodeId, etag: Option<u64>, bindings: &[Binding]) -> bool
     ensures { result ≡ third_is_needed tables.now node etag bindings.now }
 {
-    any_conditional(bindings) || (etag.is_some() && any_stored_conditional(tables, node))
+    any_conditional(bindings) || (etag.is_some() && any_conditional(bindings_at(tables, node)))
 }
 
 fn is_wrong_version(
@@ -122,29 +106,67 @@ fn has_roles(tables: &Tables, catalogue: &Catalogue, bindings: &[Binding]) -> Re
     }
 }
 
-// The rules behind the permission, in their order.
+fn few_members(bindings: &[Binding]) -> Result<(), AdmitStop>
+    ensures { Follows result (beyond (members_in bindings.now) PolicyMembers) }
+{
+    within(count_members(bindings)?, LimitName::PolicyMembers)
+}
+
+fn few_groups(alloc: Global, bindings: &[Binding]) -> Result<(), AdmitStop>
+    ensures { Follows result (beyond (groups_in bindings.now) PolicyGroups) }
+{
+    within(count_groups(alloc, bindings)?, LimitName::PolicyGroups)
+}
+
+fn few_in_all(
+    alloc: Global,
+    tables: &Tables,
+    node: NodeId,
+    bindings: &List<Binding>,
+) -> Result<(), AdmitStop>
+    requires { tables.now.org.changes + 1 < 2 ^ 64 }
+    ensures { Follows result (beyond (all_members_in (set_policy tables.now node bindings.now).allows) Members) }
+{
+    within(
+        members_after(alloc, tables, node, bindings)?,
+        LimitName::Members,
+    )
+}
+
+fn few_changes(tables: &Tables) -> Result<(), AdmitStop>
+    requires { tables.now.org.changes + 1 < 2 ^ 64 }
+    ensures { Follows result (many_changes tables.now) }
+{
+    within(tables.org.changes + 1, LimitName::Changes)
+}
+
+// The node of the name, where no rule refuses the setting of its allow policy.
 fn keeps_rules(
     alloc: Global,
     index: &Index,
-    node: NodeId,
+    caller: &Caller,
+    moment: Moment,
+    name: &NodeName,
     version: u64,
     etag: Option<u64>,
     bindings: &List<Binding>,
-) -> Result<(), AdmitStop>
+) -> Result<NodeId, AdmitStop>
     requires { index.now.org.changes + 1 < 2 ^ 64 }
-    ensures { Follows result (first_of (later_rules index.now node version etag bindings.now)) }
+    ensures follows { Follows result (first_refusal ((setting name.now version etag bindings.now).rules moment index.now) (asked_of_set_allow index.now caller.now moment name.now bindings.now)) }
+    ensures node { IfOk result (λ node. node_named index.now name.now ≡ Some node) }
 {
     let tables = index.tables();
+    let given = bindings.as_slice();
+    let node = found(alloc, tables, name)?;
+    may_set(alloc, index, caller, moment, node, given)?;
     has_etag(tables, node, etag)?;
-    has_version(tables, node, version, etag, bindings.as_slice())?;
-    has_roles(tables, index.catalogue(), bindings.as_slice())?;
-    let given = count_members(bindings.as_slice())?;
-    within(given, POLICY_MEMBERS, LimitName::PolicyMembers)?;
-    let groups = count_groups(alloc, bindings.as_slice())?;
-    within(groups, POLICY_GROUPS, LimitName::PolicyGroups)?;
-    let members = members_after(alloc, tables, node, bindings)?;
-    within(members, MEMBERS, LimitName::Members)?;
-    within(tables.org.changes + 1, CHANGES, LimitName::Changes)
+    has_version(tables, node, version, etag, given)?;
+    has_roles(tables, index.catalogue(), given)?;
+    few_members(given)?;
+    few_groups(alloc, given)?;
+    few_in_all(alloc, tables, node, bindings)?;
+    few_changes(tables)?;
+    Ok(node)
 }
 
 /// The changes of the setting of an allow policy, where no rule refuses it.
@@ -158,18 +180,12 @@ pub fn set_allow(
     etag: Option<u64>,
     bindings: &List<Binding>,
 ) -> Result<List<FactChange>, AdmitStop>
-    requires { All IsGiven bindings.now }
-    ensures follows { Follows result (first_of (set_allow_rules index.now caller.now moment name.now version etag bindings.now)) }
-    ensures formed { IfOk result (λ changes. All IsChange changes) }
-    ensures changes { IfOk result (λ changes. with_changes (facts_of_tables index.now) changes ≡ facts_of_tables (after_set_allow index.now name.now bindings.now)) }
+    ensures follows { Follows result (first_refusal ((setting name.now version etag bindings.now).rules moment index.now) (asked_of_set_allow index.now caller.now moment name.now bindings.now)) }
+    ensures changes { IfOk result (λ changes. changes ≡ (setting name.now version etag bindings.now).changes moment index.now) }
 {
     changes_are_countable();
-    set_changes_lead();
-    set_changes_are_formed();
     let tables = index.tables();
-    let node = found(alloc, tables, name)?;
-    may_set(alloc, index, caller, moment, node, bindings.as_slice())?;
-    keeps_rules(alloc, index, node, version, etag, bindings)?;
+    let node = keeps_rules(alloc, index, caller, moment, name, version, etag, bindings)?;
     let changes = set_changes(alloc, tables, node, bindings)?;
     Ok(changes)
 }

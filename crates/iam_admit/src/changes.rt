@@ -1,7 +1,7 @@
 // The facts that an accepted command changes.
 ghost use Rattle.std.specs.Prelude.{◌≡◌, ◌+◌, ◌<◌, ◌^◌, IfOk};
-ghost use Rattle.iam_model.specs.ApplyAllow.{changed as the_org};
-ghost use Rattle.iam_model.specs.Facts.{set_changes as the_changes};
+ghost use Rattle.iam_model.specs.Allow.{set_changes as the_changes};
+ghost use Rattle.iam_model.specs.Shared.{changed as the_org};
 
 use iam_names::NodeId;
 use iam_tables::{Binding, Fact, FactChange, Org, Tables, copy_org, policy_after};

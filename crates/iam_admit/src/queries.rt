@@ -1,20 +1,21 @@
 // Who may set a policy.
-ghost use Rattle.std.specs.Prelude.{◌≡◌, IfOk, IsTrue};
-ghost use Rattle.iam_model.specs.AdmitAllow.{may_not_set, set_permission};
+ghost use Rattle.std.specs.Prelude.{◌≡◌, IfOk, IsTrue, codes};
 ghost use Rattle.iam_model.specs.Nodes.{exists};
+ghost use Rattle.iam_law.specs.Admit.{may_not_set, set_query as the_query};
+ghost use Rattle.iam_law.specs.Asked.{permission_at};
 ghost use Rattle.iam_admit.specs.Follows.{Follows};
-ghost use Rattle.iam_admit.specs.Queries.{bare_query};
 
+use crate::modified::modified_roles;
 use crate::rules::allowed;
 use crate::stop::AdmitStop;
-use iam_judge::Index;
+use iam_judge::{Index, resource_facts_of};
 use iam_names::{Caller, NodeId, NodeKind, PermissionName, copy_caller, copy_permission};
-use iam_tables::{Binding, Query, permission_named, resource_facts_of};
-use iam_text::{List, Moment, OutOfMemory};
+use iam_tables::{Binding, Query, Tables, bindings_at, permission_named};
+use iam_text::{Moment, OutOfMemory};
 use std::alloc::Global;
 
 fn set_text(kind: NodeKind) -> &'static str
-    ensures { result.now ≡ set_permission kind }
+    ensures { result.now ≡ permission_at kind (codes "setIamPolicy") }
 {
     match kind {
         NodeKind::Organization => "resourcemanager.organizations.setIamPolicy",
@@ -23,16 +24,17 @@ fn set_text(kind: NodeKind) -> &'static str
     }
 }
 
-// The roles that the setting modifies are left out: conditions alone ask for them, and none is stored yet.
 fn set_query(
     alloc: Global,
+    tables: &Tables,
     caller: &Caller,
     moment: Moment,
     node: NodeId,
+    bindings: &[Binding],
     permission: &PermissionName,
 ) -> Result<Query, OutOfMemory>
-    requires { permission.now ≡ set_permission node.kind }
-    ensures { IfOk result (λ query. query ≡ bare_query caller.now moment node) }
+    requires { permission.now ≡ permission_at node.kind (codes "setIamPolicy") }
+    ensures { IfOk result (λ query. query ≡ the_query tables.now caller.now moment node bindings.now) }
 {
     Ok(Query {
         caller: copy_caller(caller)?,
@@ -40,25 +42,32 @@ fn set_query(
         permission: copy_permission(permission)?,
         resource: resource_facts_of(alloc, node)?,
         moment,
-        modified: List::new(alloc),
+        modified: modified_roles(alloc, bindings_at(tables, node), bindings)?,
     })
 }
 
 /// The caller may set the policy there.
-#[tactic(auto, using(crate::proofs::Known::set_is_known))]
 pub fn may_set(
     alloc: Global,
     index: &Index,
     caller: &Caller,
     moment: Moment,
     node: NodeId,
-    _bindings: &[Binding],
+    bindings: &[Binding],
 ) -> Result<(), AdmitStop>
     requires { IsTrue (exists index.now node) }
-    ensures { Follows result (may_not_set index.now caller.now moment node _bindings.now) }
+    ensures { Follows result (may_not_set index.now caller.now moment node bindings.now) }
 {
     let permission = permission_named(alloc, set_text(node.kind))?;
-    let query = set_query(alloc, caller, moment, node, &permission)?;
+    let query = set_query(
+        alloc,
+        index.tables(),
+        caller,
+        moment,
+        node,
+        bindings,
+        &permission,
+    )?;
     let decision = index.decision(alloc, &query)?;
     allowed(permission, decision)
 }

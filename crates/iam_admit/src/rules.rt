@@ -2,13 +2,16 @@
 ghost use Rattle.std.specs.Prelude.{◌≡◌, IfOk, IsTrue, Some};
 ghost use Rattle.iam_names.specs.Node.{node_text};
 ghost use Rattle.iam_types.specs.declared.refusal.Refusal.TheVariants.{NotFound};
-ghost use Rattle.iam_model.specs.AdmitAllow.{beyond, missing, unless_allowed as refused_by};
+ghost use Rattle.iam_model.specs.Limits.{beyond};
 ghost use Rattle.iam_model.specs.Nodes.{exists, resolve as node_named};
+ghost use Rattle.iam_model.specs.Shared.{missing};
+ghost use Rattle.iam_law.specs.Asked.{unless_allowed as refused_by};
 ghost use Rattle.iam_admit.specs.Follows.{Follows};
 
 use crate::stop::AdmitStop;
+use iam_judge::unless_allowed;
 use iam_names::{NodeId, NodeName, PermissionName};
-use iam_tables::{Decision, LimitName, Refusal, Tables, resolve, unless_allowed};
+use iam_tables::{Decision, LimitName, Refusal, Tables, limit_of, resolve};
 use iam_text::OutOfMemory;
 use std::alloc::Global;
 
@@ -42,9 +45,10 @@ pub fn allowed(permission: PermissionName, decision: Decision) -> Result<(), Adm
 }
 
 /// A limit isn't passed.
-pub fn within(counted: u64, limit: u64, which: LimitName) -> Result<(), AdmitStop>
-    ensures { Follows result (beyond counted limit which) }
+pub fn within(counted: u64, which: LimitName) -> Result<(), AdmitStop>
+    ensures { Follows result (beyond counted which) }
 {
+    let limit = limit_of(which);
     if counted > limit {
         return Err(AdmitStop::Refused(Refusal::Limit {
             counted,

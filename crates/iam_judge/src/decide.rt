@@ -1,16 +1,19 @@
 // The decision.
 ghost use Rattle.std.specs.Prelude.{◌≡◌, ◌<◌, ◌^◌, ◌&&◌, All, IfOk, length};
-ghost use Rattle.std.specs.List.{list_any};
+ghost use Rattle.std.specs.List.{find, list_any};
 ghost use Rattle.std.specs.Option.{option_map};
 ghost use Rattle.std.specs.Ordering.{is_lt, nat_cmp};
 ghost use Rattle.std.specs.Cmp.Lexicographic.{slice_cmp};
-ghost use Rattle.iam_model.specs.Decide.{binding_grants as gives, condition_holds as condition_passes, decide as decision_of, grant_at as granted_decision, place_in as granted_place, role_before};
 ghost use Rattle.iam_model.specs.Holds.{holds as member_holds};
+ghost use Rattle.iam_law.specs.Decide.{binding_grants as gives, decide as decision_of, in_turn};
+ghost use Rattle.iam_law.specs.Shown.{lets_grant, shown};
+ghost use Rattle.iam_judge.specs.Leading.{role_before};
 
 use crate::holds::holds;
 use crate::roles::grants;
-use iam_names::{Caller, Member, NodeId};
-use iam_tables::{Binding, Catalogue, Condition, Decision, Query, Tables, policy_of};
+use iam_law::{firsts_are_one, grants_are_first};
+use iam_names::{Caller, Member};
+use iam_tables::{Binding, Catalogue, Condition, Decision, Query, Tables, bindings_at};
 use iam_text::{OutOfMemory, Text};
 use std::alloc::Global;
 use std::cmp::Ordering;
@@ -21,8 +24,9 @@ fn any_holds(tables: &Tables, members: &[Member], caller: &Caller) -> bool
     members.iter().any(|member| holds(tables, member, caller))
 }
 
-fn condition_holds(query: &Query, condition: &Option<Condition>) -> bool
-    ensures { result ≡ condition_passes query.now condition.now }
+// One that is given is an error, which doesn't grant.
+fn condition_grants(_query: &Query, condition: &Option<Condition>) -> bool
+    ensures { result ≡ lets_grant (shown _query.now condition.now) }
 {
     condition.is_none()
 }
@@ -32,7 +36,7 @@ fn binding_grants(tables: &Tables, catalogue: &Catalogue, query: &Query, binding
 {
     grants(tables, catalogue, &binding.role, &query.permission)
         && any_holds(tables, binding.members.as_slice(), &query.caller)
-        && condition_holds(query, &binding.condition)
+        && condition_grants(query, &binding.condition)
 }
 
 fn is_before(a: &Text, b: &Text) -> bool
@@ -76,6 +80,16 @@ fn leads(
     }
 }
 
+fn place_of(best: Option<(u32, &Binding)>) -> Option<u32>
+    ensures { result ≡ option_map (λ found. found.0) best.entry }
+{
+    match best {
+        Some((place, _)) => Some(place),
+        None => None,
+    }
+}
+
+// The place of the first binding that grants: the one whose role's text is least in bytes, and of these the first.
 fn place_in(
     alloc: Global,
     tables: &Tables,
@@ -84,8 +98,10 @@ fn place_in(
     bindings: &[Binding],
 ) -> Result<Option<u32>, OutOfMemory>
     requires { length bindings.now < 2 ^ 32 }
-    ensures { IfOk result (λ place. place ≡ granted_place tables.now query.now bindings.now) }
+    ensures { IfOk result (λ place. place ≡ option_map (λ turn. turn.0) (find (λ turn. gives tables.now query.now turn.1) (in_turn bindings.now))) }
 {
+    grants_are_first();
+    firsts_are_one();
     let mut best: Option<(u32, &Binding)> = None;
     let mut place = 0u32;
     for binding in bindings {
@@ -94,30 +110,11 @@ fn place_in(
         }
         place += 1;
     }
-    Ok(best.map(|(place, _)| place))
-}
-
-#[tactic(auto, using(crate::proofs::Deciding::found_is_countable))]
-fn grant_at(
-    alloc: Global,
-    tables: &Tables,
-    catalogue: &Catalogue,
-    query: &Query,
-    node: NodeId,
-) -> Result<Option<Decision>, OutOfMemory>
-    requires { All (λ policy. length policy.bindings < 2 ^ 32) tables.now.allows }
-    ensures { IfOk result (λ decision. decision ≡ granted_decision tables.now query.now node) }
-{
-    let Some(policy) = policy_of(tables, node) else {
-        return Ok(None);
-    };
-    let Some(place) = place_in(alloc, tables, catalogue, query, policy.bindings.as_slice())? else {
-        return Ok(None);
-    };
-    Ok(Some(Decision::Allowed { node, place }))
+    Ok(place_of(best))
 }
 
 /// The decision, by a scan of the tables.
+#[tactic(auto, using(crate::proofs::Deciding::found_is_countable))]
 pub fn decide(
     alloc: Global,
     tables: &Tables,
@@ -127,8 +124,9 @@ pub fn decide(
     requires { All (λ policy. length policy.bindings < 2 ^ 32) tables.now.allows }
     ensures { IfOk result (λ decision. decision ≡ decision_of tables.now query.now) }
 {
-    match grant_at(alloc, tables, catalogue, query, query.node)? {
-        Some(decision) => Ok(decision),
+    let node = query.node;
+    match place_in(alloc, tables, catalogue, query, bindings_at(tables, node))? {
+        Some(place) => Ok(Decision::Allowed { node, place }),
         None => Ok(Decision::NotGranted),
     }
 }

@@ -1,14 +1,15 @@
 // The index over the tables.
-ghost use Rattle.std.specs.Prelude.{◌≡◌, IfOk, IfErr, IsTrue, None, OnOk, OnErr};
-ghost use Rattle.iam_model.specs.Admit.{admission};
-ghost use Rattle.iam_model.specs.Apply.{after};
+ghost use Rattle.std.specs.Prelude.{◌≡◌, IfOk, IfErr, IsErrOf, IsTrue, None, OnOk, OnErr};
 ghost use Rattle.iam_model.specs.Catalogue.{is_permission};
-ghost use Rattle.iam_model.specs.Decide.{decide as decision_of};
-ghost use Rattle.iam_model.specs.Entries.{IsEntry};
-ghost use Rattle.iam_model.specs.Good.{Good};
+ghost use Rattle.iam_model.specs.Commands.{IsEntry, after};
+ghost use Rattle.iam_model.specs.Consistent.{Consistent};
 ghost use Rattle.iam_model.specs.Nodes.{exists};
+ghost use Rattle.iam_law.specs.Admit.{admission};
+ghost use Rattle.iam_law.specs.Decide.{decide as decision_of};
+ghost use Rattle.iam_law.specs.Good.{ConditionsStand, Good};
 
 use crate::decide::decide;
+use iam_law::{accepted_entries_fit, conditions_stand};
 use iam_model::policies_are_countable;
 use iam_outer::Zones;
 use iam_steps::Steps;
@@ -19,7 +20,7 @@ use std::marker::Model;
 use std::sync::ledger::Ledger;
 
 /// Why no index is made: a condition of the tables isn't one, or memory was refused.
-#[derive(Clone, Copy, Debug, PartialEq, Eq)]
+#[derive(Clone, Copy)]
 pub enum BuildStop {
     BadCondition,
     OutOfMemory,
@@ -46,7 +47,7 @@ pub struct Index {
 
 impl Model for Index {
     ghost use Rattle.iam_types.specs.declared.tables.Tables.{Tables};
-    ghost use Rattle.iam_model.specs.Good.{Good};
+    ghost use Rattle.iam_law.specs.Good.{Good};
 
     ghost Value = { Tables };
 
@@ -56,17 +57,19 @@ impl Model for Index {
 }
 
 impl Index {
-    /// No conditions can be stored yet, so none is bad.
+    /// The index over consistent tables, where their conditions may stand there. None can be stored yet, so none is bad.
     pub fn build(
         _alloc: Global,
         tables: Tables,
         catalogue: Catalogue,
         zones: Zones,
     ) -> Result<Index, BuildStop>
-        requires { Good tables }
+        requires { Consistent tables }
         ensures ok { IfOk result (λ index. index ≡ tables) }
+        ensures bad { IsErrOf result BuildStop.BadCondition → ¬ ConditionsStand tables }
         ensures err { IfErr result (λ stop. stop ≡ BuildStop.OutOfMemory) }
     {
+        conditions_stand();
         Ok(Index {
             tables,
             catalogue,
@@ -121,6 +124,8 @@ impl Index {
         ensures ok { OnOk result (self.new ≡ after self.old entry.now) }
         ensures err { OnErr result (self.new ≡ self.old) }
     {
+        accepted_entries_fit();
+        conditions_stand();
         apply(&mut self.tables, alloc, entry)
     }
 }

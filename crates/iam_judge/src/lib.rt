@@ -1,13 +1,17 @@
 //! The decision: whether a caller may use a permission on a node.
 //!
 //! An `Index` is seen as its tables, which are good, and `decide` gives the decision that the definitions of
-//! `iam_model` give in them. It scans the tables.
+//! `iam_law` give in them. It scans the tables.
 #![tactic(auto)]
 
 mod decide;
+mod decided;
 mod holds;
 mod index;
+mod resource;
 mod roles;
 
+pub use decided::unless_allowed;
 pub use iam_steps::Steps;
 pub use index::{BuildStop, Index};
+pub use resource::resource_facts_of;

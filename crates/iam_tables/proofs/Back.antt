@@ -1,10 +1,11 @@
--- The facts of good tables give them back.
+-- The facts of consistent tables give them back.
 use Rattle.std.proofs.Common.{◌≡◌, ℕ, List, [], ◌∷◌, ap, refl, sym, ◌∙◌}
 use Rattle.std.specs.Prelude.{Result, Ok, Err, IfOk, IsErrOf}
 use Rattle.iam_types.specs.declared.fact.Fact.{Fact}
 use Rattle.iam_types.specs.declared.node.Org.{Org}
 use Rattle.iam_types.specs.declared.tables.Tables.{Tables}
-use Rattle.iam_model.specs.Broken.{GiveTables, IsFirstBroken, tables_with}
+use Rattle.iam_model.specs.Broken.{GiveTables, IsFirstBroken}
+use Rattle.iam_model.specs.Facts.{tables_with}
 use Rattle.iam_tables.specs.Back.{GivesBack}
 use Rattle.iam_tables.specs.declared.stop.TablesStop.{TablesStop}
 use Rattle.iam_tables.specs.declared.stop.TablesStop.TheVariants.{Inconsistent, OutOfMemory}
@@ -15,8 +16,8 @@ same_org a b same = cc
 -- facts give one tables at most
 one_tables : (facts : List Fact) (a b : Tables) → GiveTables facts a → GiveTables facts b → a ≡ b
 one_tables facts a b give_a give_b =
-    let orgs : give_a.1.0 ≡ give_b.1.0 = same_org give_a.1.0 give_b.1.0 (sym give_a.1.1 ∙ give_b.1.1) in
-    give_a.1.2 ∙ ap (λ (org : Org). tables_with org facts) orgs ∙ sym give_b.1.2
+    let orgs : a.org ≡ b.org = same_org a.org b.org (sym give_a.org ∙ give_b.org) in
+    give_a.lists ∙ ap (λ (org : Org). tables_with org facts) orgs ∙ sym give_b.lists
 
 pub gives_back : ((facts : List Fact) (tables : Tables) (rule : ℕ) → GiveTables facts tables → IsFirstBroken facts rule → ⊥)
     → (facts : List Fact) (tables : Tables) (result : Result Tables TablesStop) → GiveTables facts tables → IfOk result (GiveTables facts)

@@ -2,7 +2,7 @@
 use Rattle.std.proofs.Common.{◌≡◌, ℕ, List, [], refl}
 use Rattle.iam_names.specs.declared.member.Member.{Member}
 use Rattle.iam_names.specs.declared.member.Member.TheVariants.{Group}
-use Rattle.iam_model.specs.Good.{group_of}
+use Rattle.iam_model.specs.Policies.{group_of}
 
 -- a member that is no group names none
 pub no_group : (member : Member) → ((email : List ℕ) → member ≡ Group email → ⊥) → group_of member ≡ []

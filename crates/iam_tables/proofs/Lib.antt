@@ -1,6 +1,4 @@
-pub mod Applying
 pub mod Back
-pub mod Counts
 pub mod Fitting
 pub mod Grouping
 pub mod Named

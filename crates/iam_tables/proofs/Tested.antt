@@ -8,8 +8,9 @@ use Rattle.std.proofs.lemmas.List.Sums.{AllPass-from_list_all, list_all-from_All
 use Rattle.iam_types.specs.declared.allow.AllowPolicy.{AllowPolicy}
 use Rattle.iam_types.specs.declared.allow.Binding.{Binding}
 use Rattle.iam_types.specs.declared.tables.Tables.{Tables}
-use Rattle.iam_model.specs.Good.{PoliciesStand, is_role}
+use Rattle.iam_model.specs.Consistent.{PoliciesStand}
 use Rattle.iam_model.specs.Nodes.{exists}
+use Rattle.iam_model.specs.Policies.{is_role}
 
 pub stand_shown : (tables : Tables) (nodes roles : Bool) → nodes ≡ list_all (λ policy. exists tables policy.node) tables.allows → roles ≡ list_all (λ policy. list_all (λ binding. is_role tables binding.role) policy.bindings) tables.allows
     → (IsTrue (nodes && roles) ↔ PoliciesStand tables)

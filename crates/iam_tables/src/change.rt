@@ -1,38 +1,63 @@
-// The tables after an accepted entry: a match into one function a command.
+// The tables after an entry that fits: a match into one function a command.
 ghost use Rattle.std.specs.Prelude.{◌≡◌, ◌+◌, ◌<◌, ◌^◌, OnOk, OnErr, None};
-ghost use Rattle.iam_model.specs.Admit.{admission};
-ghost use Rattle.iam_model.specs.Apply.{after, after_command};
-ghost use Rattle.iam_model.specs.Entries.{IsEntry};
-ghost use Rattle.iam_model.specs.Good.{Good};
+ghost use Rattle.iam_model.specs.Commands.{IsEntry, after, fits};
+ghost use Rattle.iam_model.specs.Consistent.{Consistent};
 
 use crate::change_allow::set_allow;
-use iam_model::{changes_are_countable, changes_keep_good};
+use iam_model::{changes_are_countable, changes_keep_consistent};
 use iam_text::OutOfMemory;
 use iam_types::{Command, Entry, Tables};
 use std::alloc::Global;
 
-fn apply_command(tables: &mut Tables, alloc: Global, command: &Command) -> Result<(), OutOfMemory>
+fn apply_command(tables: &mut Tables, alloc: Global, entry: &Entry) -> Result<(), OutOfMemory>
     requires { tables.old.org.changes + 1 < 2 ^ 64 }
-    ensures ok { OnOk result (tables.new ≡ after_command tables.old command.now) }
+    ensures ok { OnOk result (tables.new ≡ after tables.old entry.now) }
     ensures err { OnErr result (tables.new ≡ tables.old) }
 {
-    match command {
+    match &entry.command {
         Command::SetAllow { node, bindings, .. } => set_allow(tables, alloc, node, bindings),
-        _ => Ok(()),
+        Command::CreateFolder { .. }
+        | Command::RenameFolder { .. }
+        | Command::CreateProject { .. }
+        | Command::Move { .. }
+        | Command::DeleteNode { .. }
+        | Command::UndeleteNode { .. }
+        | Command::CreateTagKey { .. }
+        | Command::DeleteTagKey { .. }
+        | Command::CreateTagValue { .. }
+        | Command::DeleteTagValue { .. }
+        | Command::BindTag { .. }
+        | Command::UnbindTag { .. }
+        | Command::CreateGroup { .. }
+        | Command::DeleteGroup { .. }
+        | Command::AddMember { .. }
+        | Command::RemoveMember { .. }
+        | Command::CreateRole { .. }
+        | Command::UpdateRole { .. }
+        | Command::DeleteRole { .. }
+        | Command::UndeleteRole { .. }
+        | Command::CreateDeny { .. }
+        | Command::UpdateDeny { .. }
+        | Command::DeleteDeny { .. }
+        | Command::CreateBoundary { .. }
+        | Command::UpdateBoundary { .. }
+        | Command::DeleteBoundary { .. }
+        | Command::CreateBound { .. }
+        | Command::DeleteBound { .. } => Ok(()),
     }
 }
 
-/// Makes the change of an accepted entry, which keeps the tables good.
+/// Makes the change of an entry that fits, which keeps the tables consistent.
 pub fn apply(tables: &mut Tables, alloc: Global, entry: &Entry) -> Result<(), OutOfMemory>
-    requires good { Good tables.old }
+    requires consistent { Consistent tables.old }
     requires formed { IsEntry entry.now }
-    requires accepted { admission tables.old entry.now ≡ None }
+    requires fitting { fits tables.old entry.now ≡ None }
     ensures ok { OnOk result (tables.new ≡ after tables.old entry.now) }
     ensures err { OnErr result (tables.new ≡ tables.old) }
-    ensures kept { Good tables.new }
+    ensures kept { Consistent tables.new }
 {
-    changes_keep_good();
+    changes_keep_consistent();
     changes_are_countable();
-    apply_command(tables, alloc, &entry.command)?;
+    apply_command(tables, alloc, entry)?;
     Ok(())
 }

@@ -1,12 +1,13 @@
 // The setting of an allow policy.
 ghost use Rattle.std.specs.Prelude.{◌≡◌, ◌+◌, ◌<◌, ◌^◌, IfOk, OnOk, OnErr, filter};
-ghost use Rattle.iam_model.specs.ApplyAllow.{after_set_allow, policy_after as the_policy_after, set_policy as tables_with};
-ghost use Rattle.iam_model.specs.Good.{has_members as some_members};
+ghost use Rattle.std.specs.Option.{option_map_or};
+ghost use Rattle.iam_model.specs.Allow.{policy_after as the_policy_after, set_policy as with_policy};
+ghost use Rattle.iam_model.specs.Nodes.{resolve as node_named};
+ghost use Rattle.iam_model.specs.Policies.{has_members as some_members};
 
-use crate::place::put_policy;
 use crate::reading::resolve;
 use iam_names::{NodeId, NodeName};
-use iam_text::{List, OutOfMemory};
+use iam_text::{List, OutOfMemory, put_row};
 use iam_types::{AllowPolicy, Binding, Tables, copy_binding};
 use std::alloc::Global;
 
@@ -52,11 +53,11 @@ fn set_policy(
     bindings: &List<Binding>,
 ) -> Result<(), OutOfMemory>
     requires { tables.old.org.changes + 1 < 2 ^ 64 }
-    ensures ok { OnOk result (tables.new ≡ tables_with tables.old node bindings.now) }
+    ensures ok { OnOk result (tables.new ≡ with_policy tables.old node bindings.now) }
     ensures err { OnErr result (tables.new ≡ tables.old) }
 {
     let policy = policy_after(alloc, tables, node, bindings)?;
-    put_policy(alloc, &mut tables.allows, policy)?;
+    put_row(&mut tables.allows, policy)?;
     tables.org.changes += 1;
     Ok(())
 }
@@ -68,7 +69,7 @@ pub fn set_allow(
     bindings: &List<Binding>,
 ) -> Result<(), OutOfMemory>
     requires { tables.old.org.changes + 1 < 2 ^ 64 }
-    ensures ok { OnOk result (tables.new ≡ after_set_allow tables.old name.now bindings.now) }
+    ensures ok { OnOk result (tables.new ≡ option_map_or (λ node. with_policy tables.old node bindings.now) (node_named tables.old name.now) tables.old) }
     ensures err { OnErr result (tables.new ≡ tables.old) }
 {
     match resolve(tables, name) {

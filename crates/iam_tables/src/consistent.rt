@@ -1,17 +1,20 @@
 // The rules that tables of facts may break, a function each.
 ghost use Rattle.std.specs.Prelude.{◌≡◌, ◌↔◌, ◌≤◌, IfOk, IfSome, IfNone, IsTrue};
 ghost use Rattle.std.specs.List.{All, list_all};
-ghost use Rattle.iam_model.specs.Broken.{IsFirstBrokenBy, Keeps};
-ghost use Rattle.iam_model.specs.Good.{NumbersFit, PoliciesStand, SetByChanges, WithinLimits, count_groups as the_groups, count_members as the_count, is_role as role_is_known, POLICY_GROUPS as MOST_GROUPS, POLICY_MEMBERS as MOST_MEMBERS};
+ghost use Rattle.iam_model.specs.Broken.{IsFirstBrokenBy};
+ghost use Rattle.iam_types.specs.declared.refusal.LimitName.TheVariants.{PolicyGroups, PolicyMembers};
+ghost use Rattle.iam_model.specs.Consistent.{Keeps, NumbersFit, PoliciesStand, SetByChanges, WithinLimits};
+ghost use Rattle.iam_model.specs.Limits.{limit_of as the_limit};
 ghost use Rattle.iam_model.specs.Nodes.{exists as node_exists};
+ghost use Rattle.iam_model.specs.Policies.{count_groups as the_groups, count_members as the_count, is_role as role_is_known};
 
 use crate::Catalogue;
 use crate::count::{count_all_members, count_members};
 use crate::groups::count_groups;
-use crate::limits::{CHANGES, MEMBERS, POLICY_GROUPS, POLICY_MEMBERS};
+use crate::limits::limit_of;
 use crate::reading::{exists, is_role};
 use iam_text::OutOfMemory;
-use iam_types::{AllowPolicy, Binding, Tables};
+use iam_types::{AllowPolicy, Binding, LimitName, Tables};
 use std::alloc::Global;
 
 fn numbers_fit(tables: &Tables) -> bool
@@ -55,11 +58,11 @@ fn policies_stand(tables: &Tables, catalogue: &Catalogue) -> bool
 }
 
 fn members_within(allows: &[AllowPolicy]) -> Result<bool, OutOfMemory>
-    ensures { IfOk result (λ within. IsTrue within ↔ All (λ policy. the_count policy.bindings ≤ MOST_MEMBERS) allows.now) }
+    ensures { IfOk result (λ within. IsTrue within ↔ All (λ policy. the_count policy.bindings ≤ the_limit PolicyMembers) allows.now) }
 {
     for policy in allows {
         let count = count_members(policy.bindings.as_slice())?;
-        if count > POLICY_MEMBERS {
+        if count > limit_of(LimitName::PolicyMembers) {
             return Ok(false);
         }
     }
@@ -67,11 +70,11 @@ fn members_within(allows: &[AllowPolicy]) -> Result<bool, OutOfMemory>
 }
 
 fn groups_within(alloc: Global, allows: &[AllowPolicy]) -> Result<bool, OutOfMemory>
-    ensures { IfOk result (λ within. IsTrue within ↔ All (λ policy. the_groups policy.bindings ≤ MOST_GROUPS) allows.now) }
+    ensures { IfOk result (λ within. IsTrue within ↔ All (λ policy. the_groups policy.bindings ≤ the_limit PolicyGroups) allows.now) }
 {
     for policy in allows {
         let count = count_groups(alloc, policy.bindings.as_slice())?;
-        if count > POLICY_GROUPS {
+        if count > limit_of(LimitName::PolicyGroups) {
             return Ok(false);
         }
     }
@@ -90,7 +93,10 @@ fn within_limits(alloc: Global, tables: &Tables) -> Result<bool, OutOfMemory>
         return Ok(false);
     }
     let members = count_all_members(allows)?;
-    Ok(members <= MEMBERS && tables.org.changes <= CHANGES)
+    Ok(
+        members <= limit_of(LimitName::Members)
+            && tables.org.changes <= limit_of(LimitName::Changes),
+    )
 }
 
 fn set_by_changes(tables: &Tables) -> bool

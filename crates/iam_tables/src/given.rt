@@ -1,36 +1,46 @@
 // The tables of given facts.
 ghost use Rattle.std.specs.Prelude.{◌≡◌, ◌↔◌, ◌+◌, ℕ, [], ◌∷◌, List as Items, All, Contains, IfOk, IfSome, IfNone, IsErrOf, IsTrue, OnOk, length};
-ghost use Rattle.iam_text.specs.Put.{placed};
 ghost use Rattle.iam_types.specs.declared.fact.Fact.{Fact as AFact};
-ghost use Rattle.iam_model.specs.Broken.{AreApart, GiveTables, HasOneOrg, IsFirstBroken, orgs_in, policies_in, tables_with as the_tables};
-ghost use Rattle.iam_model.specs.Facts.{IsFact, fact_order, facts_of};
-ghost use Rattle.iam_model.specs.Good.{Good};
-ghost use Rattle.iam_model.specs.Order.{allow_order};
+ghost use Rattle.iam_text.specs.Put.{placed};
+ghost use Rattle.iam_model.specs.Broken.{GiveTables, HasOneOrg, IsFirstBroken, IsOnlyOrg};
+ghost use Rattle.iam_model.specs.Consistent.{Consistent};
+ghost use Rattle.iam_model.specs.Facts.{AreApart, fact_order, facts_of, tables_with as the_tables};
+ghost use Rattle.iam_model.specs.Formed.{IsFact};
+ghost use Rattle.iam_model.specs.Part.{rows_in, table_of};
+ghost use Rattle.iam_model.specs.Parts.{allow_part, org_part};
 ghost use Rattle.iam_types.specs.declared.tables.Tables.{Tables as TheTables};
 ghost use Rattle.iam_tables.specs.Back.{GivesBack};
 ghost use Rattle.iam_tables.specs.declared.stop.TablesStop.TheVariants.{Inconsistent as Breaks};
 
 use crate::consistent::broken_rule;
-use crate::place::put_policy;
 use crate::stop::TablesStop;
 use iam_model::{
-    apart_facts_are_counted, broken_facts_give_none, given_tables_are_good, good_tables_are_given,
-    tables_have_placed_facts,
+    apart_facts_are_counted, broken_facts_give_none, consistent_tables_are_given,
+    given_tables_are_consistent, nothing_else_is_given, tables_have_placed_facts,
 };
-use iam_text::{List, OutOfMemory};
+use iam_text::{List, OutOfMemory, put_row};
 use iam_types::{AllowPolicy, Fact, Org, Tables, copy_org, copy_policy};
 use std::alloc::Global;
 
 // The first organisation, and the facts behind it.
-#[tactic(auto, using(crate::proofs::Parts::no_org))]
 fn first_org(facts: &[Fact]) -> Option<(&Org, &[Fact])>
-    ensures first { IfSome result (λ found. orgs_in facts.now ≡ found.0.now ∷ orgs_in found.1.now) }
-    ensures none { IfNone result (orgs_in facts.now ≡ []) }
+    ensures first { IfSome result (λ found. rows_in org_part facts.now ≡ found.0.now ∷ rows_in org_part found.1.now) }
+    ensures none { IfNone result (rows_in org_part facts.now ≡ []) }
 {
     for (at, fact) in facts.iter().enumerate() {
         match fact {
             Fact::Org(org) => return Some((org, facts.split_at(at + 1).1)),
-            _ => {}
+            Fact::Node(_)
+            | Fact::Key(_)
+            | Fact::Value(_)
+            | Fact::Tag(_)
+            | Fact::Group(_)
+            | Fact::Edge(_)
+            | Fact::Role(_)
+            | Fact::Allow(_)
+            | Fact::Deny(_)
+            | Fact::Boundary(_)
+            | Fact::Bound(_) => {}
         }
     }
     None
@@ -39,7 +49,7 @@ fn first_org(facts: &[Fact]) -> Option<(&Org, &[Fact])>
 // The organisation, where there is exactly one.
 #[tactic(auto, using(crate::proofs::Parts::two_not_one, crate::proofs::Parts::none_not_one))]
 fn only_org(facts: &[Fact]) -> Option<&Org>
-    ensures one { IfSome result (λ org. orgs_in facts.now ≡ org.now ∷ []) }
+    ensures one { IfSome result (λ org. IsOnlyOrg facts.now org.now) }
     ensures other { IfNone result (¬ HasOneOrg facts.now) }
 {
     match first_org(facts) {
@@ -52,36 +62,42 @@ fn only_org(facts: &[Fact]) -> Option<&Org>
 }
 
 // Puts the policy of one more fact that stands before the others, if it has one.
-#[tactic(auto, using(crate::proofs::Parts::no_policy))]
-fn put_policy_of(
-    alloc: Global,
-    rows: &mut List<AllowPolicy>,
-    fact: &Fact,
-) -> Result<(), OutOfMemory>
-    ensures { (others : Items AFact) → rows.old ≡ placed allow_order (policies_in others) → OnOk result (rows.new ≡ placed allow_order (policies_in (fact.now ∷ others))) }
+fn put_policy_of(rows: &mut List<AllowPolicy>, fact: &Fact) -> Result<(), OutOfMemory>
+    ensures { (others : Items AFact) → rows.old ≡ table_of allow_part others → OnOk result (rows.new ≡ table_of allow_part (fact.now ∷ others)) }
 {
     match fact {
-        Fact::Allow(policy) => put_policy(alloc, rows, copy_policy(policy)?),
-        _ => Ok(()),
+        Fact::Allow(policy) => put_row(rows, copy_policy(policy)?),
+        Fact::Node(_)
+        | Fact::Key(_)
+        | Fact::Value(_)
+        | Fact::Tag(_)
+        | Fact::Group(_)
+        | Fact::Edge(_)
+        | Fact::Role(_)
+        | Fact::Org(_)
+        | Fact::Deny(_)
+        | Fact::Boundary(_)
+        | Fact::Bound(_) => Ok(()),
     }
 }
 
 // The policies in their order. The last fact comes first, so that each policy of facts in order is put in front.
 fn policies_of(alloc: Global, facts: &[Fact]) -> Result<List<AllowPolicy>, OutOfMemory>
-    ensures { IfOk result (λ rows. rows ≡ placed allow_order (policies_in facts.now)) }
+    ensures { IfOk result (λ rows. rows ≡ table_of allow_part facts.now) }
 {
     let mut rows = List::new(alloc);
     let mut left = facts.len();
     while left > 0 {
         left -= 1;
-        put_policy_of(alloc, &mut rows, &facts[left])?;
+        put_policy_of(&mut rows, &facts[left])?;
     }
     Ok(rows)
 }
 
 fn tables_with(alloc: Global, org: &Org, allows: List<AllowPolicy>) -> Result<Tables, OutOfMemory>
-    ensures { (facts : Items AFact) → allows ≡ placed allow_order (policies_in facts) → IfOk result (λ tables. tables ≡ the_tables org.now facts) }
+    ensures { (facts : Items AFact) → All IsFact facts → allows ≡ table_of allow_part facts → IfOk result (λ tables. tables ≡ the_tables org.now facts) }
 {
+    nothing_else_is_given();
     Ok(Tables {
         org: copy_org(org)?,
         nodes: List::new(alloc),
@@ -110,11 +126,12 @@ fn are_apart(facts: &[Fact], allows: &[AllowPolicy]) -> bool
 fn tables_of(alloc: Global, facts: &[Fact]) -> Result<Tables, TablesStop>
     requires { All IsFact facts.now }
     ensures given { IfOk result (GiveTables facts.now) }
-    ensures good { IfOk result Good }
+    ensures consistent { IfOk result Consistent }
     ensures broken { (rule : ℕ) → IsErrOf result (Breaks rule) → IsFirstBroken facts.now rule }
 {
-    given_tables_are_good();
+    given_tables_are_consistent();
     tables_have_placed_facts();
+    nothing_else_is_given();
     let Some(org) = only_org(facts) else {
         return Err(TablesStop::Inconsistent { rule: 1 });
     };
@@ -133,12 +150,12 @@ fn tables_of(alloc: Global, facts: &[Fact]) -> Result<Tables, TablesStop>
 pub fn from_facts(alloc: Global, facts: List<Fact>) -> Result<Tables, TablesStop>
     requires { All IsFact facts }
     ensures given { IfOk result (GiveTables facts) }
-    ensures good { IfOk result Good }
+    ensures consistent { IfOk result Consistent }
     ensures broken { (rule : ℕ) → IsErrOf result (Breaks rule) → IsFirstBroken facts rule }
-    // The facts of good tables give these tables back, in any order.
-    ensures back { (tables : TheTables) → Good tables → AreApart facts → ((fact : AFact) → Contains facts fact ↔ Contains (facts_of tables) fact) → GivesBack tables result }
+    // The facts of consistent tables give these tables back, in any order.
+    ensures back { (tables : TheTables) → Consistent tables → AreApart facts → ((fact : AFact) → Contains facts fact ↔ Contains (facts_of tables) fact) → GivesBack tables result }
 {
-    good_tables_are_given();
+    consistent_tables_are_given();
     broken_facts_give_none();
     tables_of(alloc, facts.as_slice())
 }

@@ -2,7 +2,7 @@
 ghost use Rattle.std.specs.Prelude.{◌≡◌, ◌++◌, IfOk, OnOk, length};
 ghost use Rattle.std.specs.List.{flat_map, list_any};
 ghost use Rattle.std.specs.Str.{bytes_eq};
-ghost use Rattle.iam_model.specs.Good.{count_groups as the_count, different, group_of, groups_in as the_groups};
+ghost use Rattle.iam_model.specs.Policies.{count_groups as the_count, different, group_of, groups_in as the_groups};
 
 use iam_names::{Email, Member, copy_email};
 use iam_text::{List, OutOfMemory};

@@ -11,31 +11,23 @@ mod change;
 mod change_allow;
 mod consistent;
 mod count;
-mod decided;
 mod facts;
 mod given;
-#[cfg(test)]
-mod given_tests;
 mod groups;
 mod limits;
 mod lines;
 mod opening;
 mod permits;
-mod place;
 mod preset_lines;
 mod presets;
 mod reading;
-mod resource;
 mod stop;
-#[cfg(test)]
-mod tests;
 mod version;
 
 pub use catalogue::Catalogue;
 pub use change::apply;
 pub use change_allow::policy_after;
 pub use count::{count_members, members_after};
-pub use decided::unless_allowed;
 pub use facts::facts_of;
 pub use given::from_facts;
 pub use groups::count_groups;
@@ -46,10 +38,11 @@ pub use iam_types::{
     Org, Permit, Preset, Query, Refusal, Resource, ResourceFacts, Role, Shown, Stage, Tables,
     TagBinding, TagKey, TagValue, copy_binding, copy_condition, copy_org, copy_policy,
 };
-pub use limits::{CHANGES, MEMBERS, POLICY_GROUPS, POLICY_MEMBERS};
+pub use limits::limit_of;
 pub use opening::opening_tables;
 pub use permits::permission_named;
-pub use reading::{is_permission, is_role, organization_of, policy_of, resolve, same_role};
-pub use resource::resource_facts_of;
+pub use reading::{
+    bindings_at, etag_of, is_permission, is_role, organization_of, policy_of, resolve, same_role,
+};
 pub use stop::TablesStop;
 pub use version::is_version;

@@ -3,15 +3,14 @@ ghost use Rattle.std.specs.Prelude.{◌≡◌, IfSome, IsTrue};
 ghost use Rattle.std.specs.Option.{option_copied};
 ghost use Rattle.std.specs.List.{list_any};
 ghost use Rattle.iam_model.specs.Catalogue.{is_permission as has_permission};
-ghost use Rattle.iam_model.specs.Decide.{policy_of as the_policy};
-ghost use Rattle.iam_model.specs.Good.{is_role as role_is_known};
+ghost use Rattle.iam_model.specs.Policies.{bindings_at as the_bindings, etag_of as the_etag, is_role as role_is_known, policy_of as the_policy};
 ghost use Rattle.iam_model.specs.Presets.{is_preset as role_is_preset};
 ghost use Rattle.iam_model.specs.Same.{same_role as is_same_role};
 ghost use Rattle.iam_model.specs.Nodes.{exists as node_exists, organization_of as the_organization, resolve as node_named};
 
 use crate::Catalogue;
 use iam_names::{NodeId, NodeKind, NodeName, PermissionName, RoleName};
-use iam_types::{AllowPolicy, Preset, Role, Tables};
+use iam_types::{AllowPolicy, Binding, Preset, Role, Tables};
 
 /// The organisation's node.
 pub fn organization_of(tables: &Tables) -> NodeId
@@ -68,6 +67,26 @@ pub fn policy_of(tables: &Tables, node: NodeId) -> Option<&AllowPolicy>
         .as_slice()
         .iter()
         .find(|policy| policy.node == node)
+}
+
+/// The bindings of a node's policy; a policy that was never set has none.
+pub fn bindings_at(tables: &Tables, node: NodeId) -> &[Binding]
+    ensures { result.now ≡ the_bindings tables.now node }
+{
+    match policy_of(tables, node) {
+        Some(policy) => policy.bindings.as_slice(),
+        None => &[],
+    }
+}
+
+/// The number of a node's policy, which is 0 where none was set.
+pub fn etag_of(tables: &Tables, node: NodeId) -> u64
+    ensures { result ≡ the_etag tables.now node }
+{
+    match policy_of(tables, node) {
+        Some(policy) => policy.set,
+        None => 0,
+    }
 }
 
 /// Whether two names of roles are one.

@@ -2,7 +2,7 @@
 use iam_text::OutOfMemory;
 
 /// The first rule that the facts break, by its number, or memory was refused.
-#[derive(Clone, Copy, Debug, PartialEq, Eq)]
+#[derive(Clone, Copy)]
 pub enum TablesStop {
     Inconsistent { rule: u8 },
     OutOfMemory,

@@ -1,7 +1,7 @@
 use Rattle.std.proofs.Common.{◌&&◌, Bool, subst, refl}
 use Rattle.std.proofs.lemmas.Bool.{and_parts, both_ways}
 use Rattle.std.specs.Prelude.{◌↔◌, IsTrue}
-use Rattle.iam_model.specs.Good.{PoliciesStand}
+use Rattle.iam_model.specs.Consistent.{PoliciesStand}
 use Rattle.iam_tables.proofs.Tested.{stand_shown}
 use Rattle.iam_tables.proofs.consistent.policies_stand.Goals as goal
 

@@ -1,5 +1,5 @@
 use Rattle.std.proofs.Common.{◌≡◌, take}
-use Rattle.iam_model.specs.Good.{count_all_members}
+use Rattle.iam_model.specs.Policies.{count_all_members}
 use Rattle.iam_tables.proofs.count.count_all_members.Given as goal
 
 abbrev pub invariant-loop-policy : goal.invariant-loop-policy

@@ -1,5 +1,5 @@
 use Rattle.std.proofs.Common.{◌≡◌, take}
-use Rattle.iam_model.specs.Good.{count_members}
+use Rattle.iam_model.specs.Policies.{count_members}
 use Rattle.iam_tables.proofs.count.count_members.Given as goal
 
 abbrev pub invariant-loop-binding : goal.invariant-loop-binding

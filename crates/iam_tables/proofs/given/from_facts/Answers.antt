@@ -7,8 +7,8 @@ use Rattle.iam_tables.proofs.Back.{gives_back}
 use Rattle.iam_tables.proofs.given.from_facts.Goals as goal
 
 pub returns-clause-back : goal.returns-clause-back
-returns-clause-back c = λ tables good apart same.
-    let given = subst (λ (facts : List Fact). GiveTables facts tables) (sym c.as_slice.ensures) (c.good_tables_are_given.ensures c.args.facts tables good apart same) in
+returns-clause-back c = λ tables consistent apart same.
+    let given = subst (λ (facts : List Fact). GiveTables facts tables) (sym c.as_slice.ensures) (c.consistent_tables_are_given.ensures c.args.facts tables consistent apart same) in
     gives_back c.broken_facts_give_none.ensures c.as_slice.result.now tables c.tables_of.result given c.tables_of.ensures.given c.tables_of.ensures.broken
 
 pub returns-clause-broken : goal.returns-clause-broken

@@ -1,5 +1,5 @@
 use Rattle.std.proofs.Common.{◌≡◌, ◌+◌, ◌≤◌, drop, length}
-use Rattle.iam_model.specs.Good.{different}
+use Rattle.iam_model.specs.Policies.{different}
 use Rattle.iam_tables.proofs.groups.count_different.Given as goal
 
 abbrev pub invariant-loop-at : goal.invariant-loop-at

@@ -1,6 +1,6 @@
 use Rattle.std.proofs.Common.{◌≡◌, ◌++◌, take}
 use Rattle.std.specs.List.{flat_map}
-use Rattle.iam_model.specs.Good.{group_of}
+use Rattle.iam_model.specs.Policies.{group_of}
 use Rattle.iam_tables.proofs.groups.push_groups.Given as goal
 
 abbrev pub invariant-loop-member : goal.invariant-loop-member
