@@ -1,16 +1,19 @@
 -- What a keeper has once tables are opened.
-use Rattle.std.proofs.Common.{◌≡◌, List, [], ◌∷◌, map, ◌++◌, Option, Some, None, inl, inr, ap, sym, subst}
-use Rattle.std.specs.Prelude.{IfSome, IsSomeAnd}
-use Rattle.iam_types.specs.declared.allow.AllowPolicy.{AllowPolicy}
+use Rattle.std.proofs.Common.{◌≡◌, ◌∙◌, List, [], ◌∷◌, map, Option, Some, None, inl, inr, ap, refl, sym, subst}
+use Rattle.std.specs.Prelude.{◌↔◌, Contains, IfSome, IsSomeAnd}
+use Rattle.iam_text.specs.Put.{placed, IsInOrder}
 use Rattle.iam_types.specs.declared.fact.Fact.{Fact}
-use Rattle.iam_types.specs.declared.fact.Fact.TheVariants as fact
 use Rattle.iam_types.specs.declared.tables.Opening.{Opening}
 use Rattle.iam_types.specs.declared.tables.Tables.{Tables}
 use Rattle.iam_types.specs.declared.fact.FactChange.{FactChange}
 use Rattle.iam_types.specs.declared.fact.FactChange.TheVariants.{Put}
-use Rattle.iam_model.specs.Facts.{facts_of, with_changes}
-use Rattle.iam_model.specs.Good.{Good}
+use Rattle.iam_model.specs.Broken.{GiveTables}
+use Rattle.iam_model.specs.Consistent.{Consistent}
+use Rattle.iam_model.specs.Facts.{AreApart, fact_order, facts_of, with_changes}
 use Rattle.iam_model.specs.Opening.{opening_tables}
+use Rattle.iam_model.specs.Part.{rows_in}
+use Rattle.iam_model.specs.Parts.{org_part}
+use Rattle.iam_law.specs.Good.{Good}
 use Rattle.iam_outer.specs.declared.keeper.Row.{Row}
 use Rattle.iam_outer.specs.declared.keeper.RowWrite.{RowWrite}
 use Rattle.iam_outer.specs.Rows.{after_writes, Written}
@@ -38,12 +41,26 @@ left_by law opening None now writes put are empty written = inl written
 left_by law opening (Some rows) now writes put are empty written =
     inr (ap Some empty, subst (λ (o : Option (List Row)). IsSomeAnd o (AreRows (facts_of (opening_tables opening)))) (sym written) (put_over_none law (facts_of (opening_tables opening)) rows writes put are empty))
 
--- tables have a fact, so they have a row
-some_row : (allows : List AllowPolicy) (org : Fact) → AreRows (map fact.Allow allows ++ org ∷ []) [] → ⊥
-some_row [] org kept = kept
-some_row (policy ∷ allows) org kept = kept
+-- what is known of facts in order, and of consistent tables
+abbrev pub Placed : Type 0
+Placed = (facts : List Fact) → IsInOrder fact_order facts → (placed fact_order facts ≡ facts) × AreApart facts
 
-pub opened_once : ((a b : Tables) (rows : List Row) → Good a → Good b → AreRows (facts_of a) rows → AreRows (facts_of b) rows → a ≡ b)
+abbrev pub Given : Type 0
+Given = (facts : List Fact) (tables : Tables) → Consistent tables → AreApart facts → ((fact : Fact) → Contains facts fact ↔ Contains (facts_of tables) fact) → GiveTables facts tables
+
+no_facts : (facts : List Fact) → AreRows facts [] → facts ≡ []
+no_facts [] are = refl
+no_facts (fact ∷ facts) are = absurd are
+
+-- tables have the fact of their organisation, so they have a row
+some_row : Placed → Given → (tables : Tables) → Consistent tables → AreRows (facts_of tables) [] → ⊥
+some_row ordered given tables consistent are =
+    let facts : List Fact = facts_of tables in
+    let gives : GiveTables facts tables = given facts tables consistent (ordered facts consistent.ordered).1 (λ fact. (λ there. there, λ there. there)) in
+    let none : [] ≡ tables.org ∷ [] = ap (rows_in org_part) (sym (no_facts facts are)) ∙ gives.org in
+    cc none
+
+pub opened_once : Placed → Given → ((a b : Tables) (rows : List Row) → Consistent a → Consistent b → AreRows (facts_of a) rows → AreRows (facts_of b) rows → a ≡ b)
     → (opening : Option Opening) (rows : List Row) (kept opened : Tables) → Good kept → AreRows (facts_of kept) rows → IsOpenedFrom opening rows opened → opened ≡ kept
-opened_once law opening [] kept opened good are from = absurd (some_row kept.allows (fact.Org kept.org) are)
-opened_once law opening (row ∷ rows) kept opened good are from = law opened kept (row ∷ rows) from.0 good from.1 are
+opened_once ordered given law opening [] kept opened good are from = absurd (some_row ordered given kept good.0 are)
+opened_once ordered given law opening (row ∷ rows) kept opened good are from = law opened kept (row ∷ rows) from.0.0 good.0 from.1 are

@@ -6,8 +6,8 @@ use Rattle.iam_types.specs.declared.tables.Opening.{Opening}
 use Rattle.iam_types.specs.declared.tables.Tables.{Tables}
 use Rattle.iam_model.specs.Broken.{IsFirstBroken}
 use Rattle.iam_model.specs.Facts.{facts_of}
-use Rattle.iam_model.specs.Good.{Good}
 use Rattle.iam_model.specs.Opening.{opening_tables}
+use Rattle.iam_law.specs.Good.{Good}
 use Rattle.iam_outer.specs.declared.keeper.Row.{Row}
 use Rattle.iam_rows.specs.Kept.{AreRows, AreFactsOf, IsFirstBadRow}
 use Rattle.iam_keeping.specs.declared.stop.LoadFault.{LoadFault}

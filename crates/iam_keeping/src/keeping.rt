@@ -1,7 +1,8 @@
 // The commit of changes.
 ghost use Rattle.std.specs.Prelude.{◌≡◌, All, List as Items, IfSome, OnOk, OnErr};
 ghost use Rattle.iam_types.specs.declared.fact.Fact.{Fact as AFact};
-ghost use Rattle.iam_model.specs.Facts.{IsChange, with_changes};
+ghost use Rattle.iam_model.specs.Facts.{with_changes};
+ghost use Rattle.iam_model.specs.Formed.{IsChange};
 ghost use Rattle.iam_outer.specs.Rows.{KeeperCause};
 ghost use Rattle.iam_rows.specs.Kept.{AreRows};
 

@@ -9,8 +9,6 @@ mod keeping;
 mod laws;
 mod opening;
 mod stop;
-#[cfg(test)]
-mod tests;
 
 pub use keeping::keep;
 pub use laws::rows_open_once;

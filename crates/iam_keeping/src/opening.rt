@@ -3,9 +3,11 @@ ghost use Rattle.std.specs.Prelude.{◌≡◌, ◌≤◌, [], map, All, IfOk, If
 ghost use Rattle.std.specs.declared.option.Option.{Option as Maybe};
 ghost use Rattle.iam_text.specs.Put.{IsInOrder};
 ghost use Rattle.iam_types.specs.declared.tables.Opening.{Opening as AnOpening};
-ghost use Rattle.iam_model.specs.Facts.{IsFact, facts_of as the_facts};
-ghost use Rattle.iam_model.specs.Good.{Good};
+ghost use Rattle.iam_model.specs.Consistent.{Consistent};
+ghost use Rattle.iam_model.specs.Facts.{facts_of as the_facts};
+ghost use Rattle.iam_model.specs.Formed.{IsFact};
 ghost use Rattle.iam_model.specs.Opening.{IsOpening, opening_tables as the_opening};
+ghost use Rattle.iam_law.specs.Good.{Good};
 ghost use Rattle.iam_outer.specs.Causes.{Rose};
 ghost use Rattle.iam_outer.specs.Rows.{row_order, Written};
 ghost use Rattle.iam_types.specs.declared.fact.FactChange.{FactChange};
@@ -14,10 +16,8 @@ ghost use Rattle.iam_keeping.specs.Opened.{IsOpenedFrom, IsLeft, IsLoadFault};
 ghost use Rattle.iam_rows.specs.Kept.{AreFactsOf, AreRows, AreWrites, KeepsTables};
 
 use crate::stop::{LoadFault, OpenStop};
-use iam_model::{
-    facts_are_formed, facts_are_in_order, facts_are_put, given_tables_are_good, openings_are_good,
-    ordered_facts_are_placed,
-};
+use iam_law::{conditions_stand, openings_are_good};
+use iam_model::{facts_are_put, given_tables_are_consistent, ordered_facts_are_placed};
 use iam_outer::{Keeper, Row, RowWrite};
 use iam_rows::{
     LoadStop, facts_of_rows, facts_stand_as_rows, puts_of, read_facts_are_kept, rows_follow_changes,
@@ -33,7 +33,6 @@ fn first_tables(alloc: Global, opening: &Opening) -> Result<(Tables, List<RowWri
     ensures writes { IfOk result (λ made. AreWrites (map (λ fact. FactChange.Put fact) (the_facts (the_opening opening.now))) made.1) }
 {
     openings_are_good();
-    facts_are_formed();
     let tables = opening_tables(alloc, opening)?;
     let facts = facts_of(alloc, &tables)?;
     let writes = puts_of(alloc, facts.as_slice())?;
@@ -68,7 +67,6 @@ fn begin<P: Keeper>(alloc: Global, opening: &Opening, keeper: &mut P) -> Result<
     ensures same { P.same keeper.old keeper.new }
 {
     openings_are_good();
-    facts_are_in_order();
     facts_are_put();
     rows_follow_changes();
     let (tables, writes) = first_tables(alloc, opening)?;
@@ -104,14 +102,14 @@ fn begin_with<P: Keeper>(
 fn tables_of_facts(alloc: Global, rows: &[Row], facts: List<Fact>) -> Result<Tables, OpenStop>
     requires formed { All IsFact facts }
     requires read { AreFactsOf rows.now facts }
-    ensures good { IfOk result Good }
+    ensures consistent { IfOk result Consistent }
     ensures opened { IfOk result (λ tables. IsInOrder row_order rows.now → AreRows (the_facts tables) rows.now) }
     ensures fault { (opening : Maybe AnOpening) (fault : AFault) → IsErrOf result (OpenStop.Rows fault) → IsLoadFault opening rows.now fault }
     ensures keeper { IsErrOf result OpenStop.Keeper → ⊥ }
 {
     facts_stand_as_rows();
     ordered_facts_are_placed();
-    given_tables_are_good();
+    given_tables_are_consistent();
     read_facts_are_kept();
     match from_facts(alloc, facts) {
         Ok(tables) => Ok(tables),
@@ -123,7 +121,7 @@ fn tables_of_facts(alloc: Global, rows: &[Row], facts: List<Fact>) -> Result<Tab
 }
 
 fn tables_of_rows(alloc: Global, rows: &[Row]) -> Result<Tables, OpenStop>
-    ensures good { IfOk result Good }
+    ensures consistent { IfOk result Consistent }
     ensures opened { IfOk result (λ tables. IsInOrder row_order rows.now → AreRows (the_facts tables) rows.now) }
     ensures fault { (opening : Maybe AnOpening) (fault : AFault) → IsErrOf result (OpenStop.Rows fault) → IsLoadFault opening rows.now fault }
     ensures keeper { IsErrOf result OpenStop.Keeper → ⊥ }
@@ -153,6 +151,7 @@ pub fn open<P: Keeper>(
     ensures cause { IsErrOf result OpenStop.Keeper → Rose (P.keeper_faults keeper.old) (P.keeper_faults keeper.new) }
     ensures same { P.same keeper.old keeper.new }
 {
+    conditions_stand();
     let rows = keeper.load()?;
     if rows.is_empty() {
         return begin_with(alloc, opening, keeper);

@@ -4,7 +4,7 @@ use iam_text::OutOfMemory;
 
 /// Why loaded rows are refused: there are none and nothing to open, the first bad row by its place from 0, or the first
 /// rule that their facts break.
-#[derive(Clone, Copy, Debug, PartialEq, Eq)]
+#[derive(Clone, Copy, PartialEq, Eq)]
 pub enum LoadFault {
     Empty,
     BadRow { index: u64 },
@@ -12,7 +12,7 @@ pub enum LoadFault {
 }
 
 /// Why no tables are opened: the rows are refused, the keeper failed, or memory was refused.
-#[derive(Clone, Copy, Debug, PartialEq, Eq)]
+#[derive(Clone, Copy)]
 pub enum OpenStop {
     Rows(LoadFault),
     Keeper,

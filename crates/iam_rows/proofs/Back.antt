@@ -24,8 +24,8 @@ use Rattle.iam_json_data.proofs.Floats.{list_without_float, binding_without_floa
 use Rattle.std.specs.List.{AllByRecursion as Each}
 use Rattle.std.specs.Prelude.{true, All}
 use Rattle.std.proofs.lemmas.List.Elements.{recursion_from_All, All-weaker}
-use Rattle.iam_model.specs.Facts.{IsOrgFact, IsPolicyFact}
-use Rattle.iam_model.specs.Good.{has_members, IsStored}
+use Rattle.iam_model.specs.Formed.{IsOrgFact, IsPolicyFact, IsStored}
+use Rattle.iam_model.specs.Policies.{has_members}
 use Rattle.iam_rows.proofs.Formed.{IsKept, all_kept, all_stored}
 use Rattle.iam_rows.specs.Rows.{org_data, policy_data}
 use Rattle.iam_rows.specs.Finding.{Guesses, ReadsRow, org_with, policy_with}

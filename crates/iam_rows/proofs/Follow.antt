@@ -10,10 +10,10 @@ use Rattle.std.proofs.lemmas.Map.Text.{is_eq-slice_cmp}
 use Rattle.std.proofs.lemmas.List.Elements.{All-nil, All-cons, All-head, All-tail}
 use Rattle.iam_text.specs.Put.{put, IsInOrder}
 use Rattle.iam_types.specs.declared.fact.Fact.{Fact}
-use Rattle.iam_types.specs.declared.fact.Fact.TheVariants as fact
 use Rattle.iam_types.specs.declared.fact.FactChange.{FactChange}
 use Rattle.iam_types.specs.declared.fact.FactChange.TheVariants as change
-use Rattle.iam_model.specs.Facts.{part_of, name_of, fact_order, same_place, with_change, with_changes}
+use Rattle.iam_model.specs.Facts.{fact_order, same_place, with_change, with_changes}
+use Rattle.iam_model.specs.Parts.{part_of, key_of}
 use Rattle.iam_outer.specs.declared.keeper.Row.{Row}
 use Rattle.iam_outer.specs.declared.keeper.RowWrite.{RowWrite}
 use Rattle.iam_outer.specs.declared.keeper.RowWrite.TheVariants as write
@@ -22,23 +22,6 @@ use Rattle.iam_rows.specs.Kept.{AreRows, IsWrite, AreWrites}
 use Rattle.iam_rows.specs.Rows.{HasRow}
 
 -- ---- the place of a row is its fact's
-
-abbrev pub IsPlaceOf : Fact → Row → Type 0
-IsPlaceOf fact row = (row.part ≡ part_of fact) × (row.name ≡ name_of fact)
-
-pub placed_as : (fact : Fact) (row : Row) → HasRow fact row → IsPlaceOf fact row
-placed_as (fact.Org x) row h = (h.0, h.1)
-placed_as (fact.Node x) row h = absurd h
-placed_as (fact.Key x) row h = absurd h
-placed_as (fact.Value x) row h = absurd h
-placed_as (fact.Tag x) row h = absurd h
-placed_as (fact.Group x) row h = absurd h
-placed_as (fact.Edge x) row h = absurd h
-placed_as (fact.Role x) row h = absurd h
-placed_as (fact.Allow x) row h = (h.0, h.1)
-placed_as (fact.Deny x) row h = absurd h
-placed_as (fact.Boundary x) row h = absurd h
-placed_as (fact.Bound x) row h = absurd h
 
 both_equal : (o p : Ordering) → is_eq (ordering_then o p) ≡ is_eq o && is_eq p
 both_equal Less p = refl
@@ -51,9 +34,7 @@ order_by p q m n part other name last a b c d = rw (a, b, c, d) refl
 
 same_order : (a b : Fact) (r s : Row) → HasRow a r → HasRow b s → fact_order a b ≡ row_order r s
 same_order a b r s h g =
-    let x = placed_as a r h in
-    let y = placed_as b s g in
-    order_by (part_of a) (part_of b) (name_of a) (name_of b) r.part s.part r.name s.name x.0 y.0 x.1 y.1
+    order_by (part_of a) (part_of b) (key_of a) (key_of b) r.part s.part r.name s.name h.0 g.0 h.1 g.1
 
 same_bytes : (p q : List ℕ) → is_eq (slice_cmp nat_cmp p q) ≡ bytes_eq q p
 same_bytes p q = is_eq-slice_cmp p q ∙ nat_list_eq_equiv.symm p q
@@ -63,10 +44,9 @@ at_by : (p q m n other last : List ℕ) → other ≡ q → last ≡ n
 at_by p q m n other last b d =
     rw (b, d) (both_equal (slice_cmp nat_cmp p q) (slice_cmp nat_cmp m n) ∙ ap (λ (e : Bool). e && is_eq (slice_cmp nat_cmp m n)) (same_bytes p q) ∙ ap (λ (e : Bool). bytes_eq q p && e) (same_bytes m n))
 
-same_at : (old fact : Fact) (row : Row) → HasRow fact row → same_place old fact ≡ is_at (part_of old) (name_of old) row
+same_at : (old fact : Fact) (row : Row) → HasRow fact row → same_place old fact ≡ is_at (part_of old) (key_of old) row
 same_at old fact row h =
-    let x = placed_as fact row h in
-    at_by (part_of old) (part_of fact) (name_of old) (name_of fact) row.part row.name x.0 x.1
+    at_by (part_of old) (part_of fact) (key_of old) (key_of fact) row.part row.name h.0 h.1
 
 -- ---- changes and their writes
 
@@ -89,16 +69,16 @@ facts_left here f facts = cond (not here) (f ∷ facts) facts
 abbrev rows_left : Bool → Row → List Row → List Row
 rows_left here r rows = cond (not here) (r ∷ rows) rows
 
-cut_follows : (old : Fact) (facts : List Fact) (rows : List Row) → AreRows facts rows → AreRows (filter (λ fact. not (same_place old fact)) facts) (cut_row (part_of old) (name_of old) rows)
+cut_follows : (old : Fact) (facts : List Fact) (rows : List Row) → AreRows facts rows → AreRows (filter (λ fact. not (same_place old fact)) facts) (cut_row (part_of old) (key_of old) rows)
 cut_follows old [] [] are = tt
 cut_follows old [] (r ∷ rows) are = absurd are
 cut_follows old (f ∷ facts) [] are = absurd are
 cut_follows old (f ∷ facts) (r ∷ rows) are =
     let fs = filter (λ fact. not (same_place old fact)) facts in
-    let rs = cut_row (part_of old) (name_of old) rows in
+    let rs = cut_row (part_of old) (key_of old) rows in
     let more = cut_follows old facts rows are.1 in
-    subst (λ (here : Bool). AreRows (facts_left here f fs) (rows_left (is_at (part_of old) (name_of old) r) r rs)) (sym (same_at old f r are.0))
-    (elim (is_at (part_of old) (name_of old) r) as (λ here. AreRows (facts_left here f fs) (rows_left here r rs)) [
+    subst (λ (here : Bool). AreRows (facts_left here f fs) (rows_left (is_at (part_of old) (key_of old) r) r rs)) (sym (same_at old f r are.0))
+    (elim (is_at (part_of old) (key_of old) r) as (λ here. AreRows (facts_left here f fs) (rows_left here r rs)) [
       | true ↦ more
       | false ↦ (are.0, more)
     ])

@@ -6,7 +6,8 @@ use Rattle.std.proofs.lemmas.List.Elements.{recursion_from_All, All-from_recursi
 use Rattle.iam_names.specs.Member.{IsMember}
 use Rattle.iam_names.specs.Role.{IsRoleName}
 use Rattle.iam_types.specs.declared.allow.Binding.{Binding}
-use Rattle.iam_model.specs.Good.{IsStored, has_members}
+use Rattle.iam_model.specs.Formed.{IsStored}
+use Rattle.iam_model.specs.Policies.{has_members}
 
 -- a stored binding
 abbrev pub IsKept : Binding → Type 0

@@ -14,7 +14,7 @@ use Rattle.iam_types.specs.declared.node.Org.{Org}
 use Rattle.iam_types.specs.declared.fact.Fact.{Fact}
 use Rattle.iam_types.specs.declared.fact.Fact.TheVariants as fact
 use Rattle.iam_outer.specs.declared.keeper.Row.{Row}
-use Rattle.iam_model.specs.Facts.{IsOrgFact, IsPolicyFact, IsFact}
+use Rattle.iam_model.specs.Formed.{IsOrgFact, IsPolicyFact, IsFact}
 use Rattle.iam_rows.specs.Rows.{org_name, org_data, policy_data, IsRow}
 use Rattle.iam_rows.specs.Finding.{Guesses, IsFactOf, organization_of}
 use Rattle.iam_rows.specs.declared.stop.RowStop.{RowStop}

@@ -6,7 +6,7 @@ use Rattle.std.proofs.lemmas.List.Elements.{All-nil, All-cons}
 use Rattle.iam_types.specs.declared.fact.Fact.{Fact}
 use Rattle.iam_types.specs.declared.fact.FactChange.{FactChange}
 use Rattle.iam_types.specs.declared.fact.FactChange.TheVariants as change
-use Rattle.iam_model.specs.Facts.{IsFact}
+use Rattle.iam_model.specs.Formed.{IsFact}
 use Rattle.iam_outer.specs.declared.keeper.Row.{Row}
 use Rattle.iam_outer.specs.declared.keeper.RowWrite.{RowWrite}
 use Rattle.iam_outer.specs.declared.keeper.RowWrite.TheVariants as write

@@ -1,6 +1,7 @@
 -- Well formed facts of one row are the same.
 use Rattle.std.proofs.Common.{◌≡◌, ℕ, List, [], ◌∷◌, map, refl, sym, ap, ◌∙◌}
-use Rattle.std.specs.Prelude.{All}
+use Rattle.std.specs.Prelude.{All, Some, None, IsSomeAnd}
+use Rattle.std.specs.declared.option.Option.{Option}
 use Rattle.std.specs.List.{AllByRecursion as Each}
 use Rattle.std.proofs.lemmas.List.Elements.{recursion_from_All}
 use Rattle.serde_json.specs.Data.{Data}
@@ -17,12 +18,13 @@ use Rattle.iam_types.specs.declared.allow.Binding.{Binding}
 use Rattle.iam_types.specs.declared.fact.Fact.{Fact}
 use Rattle.iam_types.specs.declared.fact.Fact.TheVariants as fact
 use Rattle.iam_types.specs.declared.node.Org.{Org}
+use Rattle.iam_json_data.specs.Printed.{printed}
 use Rattle.iam_json_data.specs.Shown.{member_data, binding_data}
-use Rattle.iam_model.specs.Facts.{IsFact}
+use Rattle.iam_model.specs.Formed.{IsFact}
 use Rattle.iam_outer.specs.declared.keeper.Row.{Row}
 use Rattle.iam_rows.specs.Finding.{IsFactOf}
 use Rattle.iam_rows.specs.Kept.{AreRows, AreFactsOf}
-use Rattle.iam_rows.specs.Rows.{org_data, policy_data}
+use Rattle.iam_rows.specs.Rows.{HasRow, data_of, org_data, policy_data}
 use Rattle.iam_rows.proofs.Back.{org_read, policy_read}
 use Rattle.iam_rows.proofs.Formed.{IsKept, all_kept}
 use Rattle.iam_rows.proofs.Kept.{plain_binding, without_condition}
@@ -116,6 +118,22 @@ same_fact row (fact.Allow x) b h g = policy_meant row x h.1.0 (λ kept is. same_
 same_fact row (fact.Deny x) b h g = absurd h.0
 same_fact row (fact.Boundary x) b h g = absurd h.0
 same_fact row (fact.Bound x) b h g = absurd h.0
+
+printed_again : (shown : Option Data) (a b : List ℕ) → IsSomeAnd shown (λ body. a ≡ printed body) → a ≡ b → IsSomeAnd shown (λ body. b ≡ printed body)
+printed_again None a b h e = h
+printed_again (Some body) a b h e = sym e ∙ h
+
+printed_once : (shown : Option Data) (a b : List ℕ) → IsSomeAnd shown (λ body. a ≡ printed body) → IsSomeAnd shown (λ body. b ≡ printed body) → a ≡ b
+printed_once None a b h k = absurd h
+printed_once (Some body) a b h k = h ∙ sym k
+
+-- a fact has all rows that are the same as one of its rows
+pub has_same_row : (fact : Fact) (again row : Row) → HasRow fact again → (again.part ≡ row.part) × (again.name ≡ row.name) × (again.body ≡ row.body) → HasRow fact row
+has_same_row fact again row h e = (sym e.0 ∙ h.0, sym e.1 ∙ h.1, printed_again (data_of fact) again.body row.body h.2 e.2)
+
+-- and no other
+pub one_row : (fact : Fact) (again row : Row) → HasRow fact again → HasRow fact row → (again.part ≡ row.part) × (again.name ≡ row.name) × (again.body ≡ row.body)
+one_row fact again row h k = (h.0 ∙ sym k.0, h.1 ∙ sym k.1, printed_once (data_of fact) again.body row.body h.2 k.2)
 
 same_each : (a b : List Fact) (rows : List Row) → Each IsFact a → Each IsFact b → AreRows a rows → AreRows b rows → a ≡ b
 same_each [] [] [] f g h k = refl

@@ -13,7 +13,7 @@ use Rattle.iam_rows.specs.declared.stop.RowStop.{RowStop}
 use Rattle.iam_rows.specs.declared.stop.RowStop.TheVariants.{BadRow, OutOfMemory}
 use Rattle.iam_rows.specs.declared.body.OrgBody.{OrgBody}
 use Rattle.iam_rows.specs.declared.body.PolicyBody.{PolicyBody}
-use Rattle.iam_model.specs.Facts.{IsFact}
+use Rattle.iam_model.specs.Formed.{IsFact}
 use Rattle.iam_rows.specs.Rows.{HasRow}
 
 -- a well formed one, and the only one that is meant, where there is one at all

@@ -5,7 +5,8 @@ use Rattle.iam_types.specs.declared.fact.Fact.{Fact}
 use Rattle.iam_types.specs.declared.fact.FactChange.{FactChange}
 use Rattle.iam_types.specs.declared.fact.FactChange.TheVariants as change
 use Rattle.iam_types.specs.declared.tables.Tables.{Tables}
-use Rattle.iam_model.specs.Facts.{facts_of, part_of, name_of}
+use Rattle.iam_model.specs.Facts.{facts_of}
+use Rattle.iam_model.specs.Parts.{part_of, key_of}
 use Rattle.iam_outer.specs.declared.keeper.Row.{Row}
 use Rattle.iam_outer.specs.declared.keeper.RowWrite.{RowWrite}
 use Rattle.iam_outer.specs.declared.keeper.RowWrite.TheVariants as write
@@ -26,7 +27,7 @@ KeepsTables rows tables = IfSome rows (AreRows (facts_of tables))
 -- a fact that is put is written as its row, and one that is cut is cut in its place
 abbrev pub IsWrite : FactChange → RowWrite → Type 0
 IsWrite (change.Put fact) (write.Put row) = HasRow fact row
-IsWrite (change.Cut fact) (write.Cut part name) = (part ≡ part_of fact) × (name ≡ name_of fact)
+IsWrite (change.Cut fact) (write.Cut part name) = (part ≡ part_of fact) × (name ≡ key_of fact)
 IsWrite (change.Put fact) (write.Cut part name) = ⊥
 IsWrite (change.Cut fact) (write.Put row) = ⊥
 

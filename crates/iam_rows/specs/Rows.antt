@@ -1,12 +1,13 @@
 -- The row of a fact.
-use Rattle.std.specs.Prelude.{◌≡◌, ℕ, List, ◌++◌, codes}
+use Rattle.std.specs.Prelude.{◌≡◌, ℕ, List, ◌++◌, Some, None, codes, IsSomeAnd}
+use Rattle.std.specs.declared.option.Option.{Option}
 use Rattle.std.specs.Fmt.{decimal}
 use Rattle.serde_json.specs.Data.{Data, number, unsigned, string, object, no_members, member}
-use Rattle.iam_names.specs.Node.{node_id_text}
 use Rattle.iam_types.specs.declared.allow.AllowPolicy.{AllowPolicy}
 use Rattle.iam_types.specs.declared.node.Org.{Org}
 use Rattle.iam_types.specs.declared.fact.Fact.{Fact}
 use Rattle.iam_types.specs.declared.fact.Fact.TheVariants as fact
+use Rattle.iam_model.specs.Parts.{part_of, key_of}
 use Rattle.iam_outer.specs.declared.keeper.Row.{Row}
 use Rattle.iam_json_data.specs.Printed.{printed, list_data}
 use Rattle.iam_json_data.specs.Shown.{binding_data}
@@ -31,17 +32,21 @@ policy_data policy =
 abbrev pub IsRow : List ℕ → List ℕ → Data → Row → Type 0
 IsRow part name shown row = (row.part ≡ part) × (row.name ≡ name) × (row.body ≡ printed shown)
 
--- a fact of a kind that isn't kept has no row
+-- what the body of a fact's row shows; nothing of the other kinds is kept yet
+abbrev pub data_of : Fact → Option Data
+data_of (fact.Org org) = Some (org_data org)
+data_of (fact.Node node) = None
+data_of (fact.Key key) = None
+data_of (fact.Value value) = None
+data_of (fact.Tag binding) = None
+data_of (fact.Group email) = None
+data_of (fact.Edge edge) = None
+data_of (fact.Role role) = None
+data_of (fact.Allow policy) = Some (policy_data policy)
+data_of (fact.Deny policy) = None
+data_of (fact.Boundary boundary) = None
+data_of (fact.Bound binding) = None
+
+-- Its part, its key, which is a text for the kinds that are kept, and its body. A fact of a kind that isn't kept has no row.
 abbrev pub HasRow : Fact → Row → Type 0
-HasRow (fact.Org org) row = IsRow (codes "org") (org_name org.number) (org_data org) row
-HasRow (fact.Node node) row = ⊥
-HasRow (fact.Key key) row = ⊥
-HasRow (fact.Value value) row = ⊥
-HasRow (fact.Tag binding) row = ⊥
-HasRow (fact.Group email) row = ⊥
-HasRow (fact.Edge edge) row = ⊥
-HasRow (fact.Role role) row = ⊥
-HasRow (fact.Allow policy) row = IsRow (codes "allow") (node_id_text policy.node) (policy_data policy) row
-HasRow (fact.Deny policy) row = ⊥
-HasRow (fact.Boundary boundary) row = ⊥
-HasRow (fact.Bound binding) row = ⊥
+HasRow fact row = (row.part ≡ part_of fact) × (row.name ≡ key_of fact) × IsSomeAnd (data_of fact) (λ shown. row.body ≡ printed shown)

@@ -5,9 +5,9 @@ ghost use Rattle.iam_names.specs.Node.{node_id_text};
 ghost use Rattle.iam_names.specs.Number.{IsNodeNumber};
 ghost use Rattle.iam_names.specs.Reading.{IsRead};
 ghost use Rattle.iam_json_data.specs.Printed.{printed};
-ghost use Rattle.iam_model.specs.Facts.{IsFact, IsOrgFact, IsPolicyFact};
-ghost use Rattle.iam_model.specs.Good.{has_members};
-ghost use Rattle.iam_rows.specs.Rows.{org_name, org_data, policy_data, IsRow};
+ghost use Rattle.iam_model.specs.Formed.{IsFact, IsOrgFact, IsPolicyFact};
+ghost use Rattle.iam_model.specs.Policies.{has_members};
+ghost use Rattle.iam_rows.specs.Rows.{org_name, org_data, policy_data, HasRow, IsRow};
 ghost use Rattle.iam_rows.specs.Finding.{Guesses, Finds, IsFactOf, ReadsRow, org_with, policy_with, organization_of};
 
 use crate::body::{OrgBody, Owner, PolicyBody};
@@ -194,14 +194,33 @@ fn same_row(a: &Row, b: &Row) -> bool
     same_text(&a.part, &b.part) && same_text(&a.name, &b.name) && same_text(&a.body, &b.body)
 }
 
+// Whether this is the fact's row, byte for byte.
+#[tactic(auto, using(crate::proofs::Same::has_same_row, crate::proofs::Same::one_row))]
+fn keeps(alloc: Global, row: &Row, fact: &Fact) -> Result<bool, OutOfMemory>
+    requires { IsFact fact.now }
+    ensures { IfOk result (λ kept. IsTrue kept ↔ HasRow fact.now row.now) }
+{
+    let again = row_of(alloc, fact)?;
+    Ok(same_row(&again, row))
+}
+
+// Drops a value. A function that drops a fact by itself has a branch for each kind of fact.
+fn let_go<T: Drop>(_value: T) {}
+
 /// The fact that a row keeps. The row has to be its row byte for byte.
 pub fn fact_of(alloc: Global, row: &Row) -> Result<Fact, RowStop>
     ensures { Finds (IsFactOf row.now) result }
 {
     let fact = fact_like(alloc, row)?;
-    let again = row_of(alloc, &fact)?;
-    if same_row(&again, row) {
-        return Ok(fact);
+    match keeps(alloc, row, &fact) {
+        Ok(true) => Ok(fact),
+        Ok(false) => {
+            let_go(fact);
+            Err(RowStop::BadRow)
+        }
+        Err(_) => {
+            let_go(fact);
+            Err(RowStop::OutOfMemory)
+        }
     }
-    Err(RowStop::BadRow)
 }

@@ -3,14 +3,15 @@ ghost use Rattle.iam_text.specs.Put.{IsInOrder};
 ghost use Rattle.iam_types.specs.declared.fact.Fact.{Fact};
 ghost use Rattle.iam_types.specs.declared.fact.FactChange.{FactChange};
 ghost use Rattle.iam_types.specs.declared.tables.Tables.{Tables};
-ghost use Rattle.iam_model.specs.Facts.{IsFact, fact_order, facts_of, with_changes};
-ghost use Rattle.iam_model.specs.Good.{Good};
+ghost use Rattle.iam_model.specs.Consistent.{Consistent};
+ghost use Rattle.iam_model.specs.Facts.{fact_order, facts_of, with_changes};
+ghost use Rattle.iam_model.specs.Formed.{IsFact};
 ghost use Rattle.iam_outer.specs.Rows.{row_order, after_writes};
 ghost use Rattle.iam_outer.specs.declared.keeper.Row.{Row};
 ghost use Rattle.iam_outer.specs.declared.keeper.RowWrite.{RowWrite};
 ghost use Rattle.iam_rows.specs.Kept.{AreRows, AreWrites, AreFactsOf};
 
-use iam_model::{facts_are_formed, facts_tell_tables};
+use iam_model::facts_tell_tables;
 
 /// The writes of changes lead from the rows of the facts to the rows of the facts that the changes lead to.
 pub fn rows_follow_changes()
@@ -22,11 +23,10 @@ pub fn rows_tell_facts()
     ensures { (a b : List Fact) (rows : List Row) → All IsFact a → All IsFact b → AreRows a rows → AreRows b rows → a ≡ b }
 {}
 
-/// Good tables with equal rows are equal.
+/// Consistent tables with equal rows are equal.
 pub fn rows_tell_tables()
-    ensures { (a b : Tables) (rows : List Row) → Good a → Good b → AreRows (facts_of a) rows → AreRows (facts_of b) rows → a ≡ b }
+    ensures { (a b : Tables) (rows : List Row) → Consistent a → Consistent b → AreRows (facts_of a) rows → AreRows (facts_of b) rows → a ≡ b }
 {
-    facts_are_formed();
     rows_tell_facts();
     facts_tell_tables();
 }

@@ -13,8 +13,6 @@ mod laws;
 mod many;
 mod row;
 mod stop;
-#[cfg(test)]
-mod tests;
 
 pub use fact::fact_of;
 pub use laws::{

@@ -1,6 +1,6 @@
 // The rows of many facts.
 ghost use Rattle.std.specs.Prelude.{ℕ, All, IfOk, IsErrOf, map};
-ghost use Rattle.iam_model.specs.Facts.{IsFact, IsChange};
+ghost use Rattle.iam_model.specs.Formed.{IsFact, IsChange};
 ghost use Rattle.iam_rows.specs.Kept.{IsWrite, AreWrites, AreFactsOf, IsFirstBadRow};
 
 use crate::fact::fact_of;

@@ -2,7 +2,7 @@
 ghost use Rattle.std.specs.Prelude.{◌≡◌, IfOk, false};
 ghost use Rattle.serde_json.specs.View.{view};
 ghost use Rattle.serde_json.specs.Written.{has_float};
-ghost use Rattle.iam_model.specs.Facts.{IsFact};
+ghost use Rattle.iam_model.specs.Formed.{IsFact};
 ghost use Rattle.iam_rows.specs.Rows.{schema, org_name, org_data, policy_data, IsRow, HasRow};
 
 use iam_json_data::{list_value, text_of};
@@ -78,6 +78,15 @@ pub fn row_of(alloc: Global, fact: &Fact) -> Result<Row, OutOfMemory>
     match fact {
         Fact::Org(org) => org_row(alloc, org),
         Fact::Allow(policy) => policy_row(alloc, policy),
-        _ => unreachable!(),
+        Fact::Node(_)
+        | Fact::Key(_)
+        | Fact::Value(_)
+        | Fact::Tag(_)
+        | Fact::Group(_)
+        | Fact::Edge(_)
+        | Fact::Role(_)
+        | Fact::Deny(_)
+        | Fact::Boundary(_)
+        | Fact::Bound(_) => unreachable!(),
     }
 }

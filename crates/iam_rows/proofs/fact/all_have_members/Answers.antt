@@ -3,7 +3,7 @@ use Rattle.std.specs.Prelude.{List, All}
 use Rattle.std.proofs.lemmas.List.Elements.{All-get_or, All-more}
 use Rattle.std.proofs.lemmas.List.{take_all}
 use Rattle.iam_types.specs.declared.allow.Binding.{Binding}
-use Rattle.iam_model.specs.Good.{has_members}
+use Rattle.iam_model.specs.Policies.{has_members}
 use Rattle.iam_rows.proofs.Back.{HasMembers}
 use Rattle.iam_rows.proofs.fact.all_have_members.Goals as goal
 

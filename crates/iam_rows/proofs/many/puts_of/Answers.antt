@@ -4,7 +4,7 @@ use Rattle.std.proofs.lemmas.List.Elements.{All-get_or}
 use Rattle.iam_types.specs.declared.fact.Fact.{Fact}
 use Rattle.iam_types.specs.declared.fact.FactChange.TheVariants as change
 use Rattle.iam_outer.specs.declared.keeper.RowWrite.{RowWrite}
-use Rattle.iam_model.specs.Facts.{IsFact}
+use Rattle.iam_model.specs.Formed.{IsFact}
 use Rattle.iam_rows.specs.Kept.{AreWrites}
 use Rattle.iam_rows.proofs.Longer.{put_more}
 use Rattle.iam_rows.proofs.many.puts_of.Goals as goal

@@ -3,7 +3,7 @@ use Rattle.std.proofs.lemmas.List.{take_all}
 use Rattle.std.proofs.lemmas.List.Elements.{All-get_or}
 use Rattle.iam_types.specs.declared.fact.FactChange.{FactChange}
 use Rattle.iam_outer.specs.declared.keeper.RowWrite.{RowWrite}
-use Rattle.iam_model.specs.Facts.{IsChange}
+use Rattle.iam_model.specs.Formed.{IsChange}
 use Rattle.iam_rows.specs.Kept.{AreWrites}
 use Rattle.iam_rows.proofs.Longer.{write_more}
 use Rattle.iam_rows.proofs.many.writes_of.Goals as goal

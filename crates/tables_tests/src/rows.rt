@@ -1,18 +1,11 @@
 // The rows of an opening, byte for byte, and rows that keep nothing.
-use crate::{LoadStop, RowStop, fact_of, facts_of_rows, row_of, writes_of};
+use crate::given::{ALLOW, NAME, ORG, let_go, row};
 use iam_outer::{Row, RowWrite};
-use iam_text::{List, OutOfMemory, Text};
-use iam_types::FactChange;
+use iam_rows::{LoadStop, RowStop, fact_of, facts_of_rows, row_of, writes_of};
+use iam_tables::FactChange;
+use iam_text::{List, Text};
 use std::alloc::Global;
 use std::test::Fail;
-
-const NAME: &str = "organizations/1000";
-
-const ALLOW: &str =
-    "{\"bindings\":[{\"members\":[\"user:ada@example.com\"],\"role\":\"roles/resourcemanager.organizationAdmin\"}],\"set\":1}";
-
-const ORG: &str =
-    "{\"changes\":1,\"customer\":\"C01\",\"domain\":\"example.com\",\"next\":1,\"schema\":1}";
 
 // Parts and bodies: nothing in the organisation's body, an unknown part, an unknown member, a member that can't be
 // read, a binding without members, a space, another schema, and members in another order.
@@ -42,17 +35,6 @@ const BAD: [(&str, &str); 8] = [
     ),
 ];
 
-fn row(alloc: Global, part: &str, body: &str) -> Result<Row, OutOfMemory> {
-    Ok(Row {
-        part: Text::of(alloc, part)?,
-        name: Text::of(alloc, NAME)?,
-        body: Text::of(alloc, body)?,
-    })
-}
-
-// Lets a value of any kind go.
-fn let_go<T: Drop>(_value: T) {}
-
 // The row of the fact that a row keeps.
 fn again(alloc: Global, kept: &Row) -> Result<Row, RowStop> {
     let fact = fact_of(alloc, kept)?;
@@ -81,7 +63,7 @@ fn writes(alloc: Global, put: &Row, cut: &Row) -> Result<List<RowWrite>, RowStop
 fn rows_of_an_opening_are_kept(rt: HostRuntime) -> Result<(), Fail> {
     let alloc = rt.alloc();
     for (part, body) in [("allow", ALLOW), ("org", ORG)] {
-        let kept = row(alloc, part, body)?;
+        let kept = row(alloc, part, NAME, body)?;
         assert!(rt; again(alloc, &kept)? == kept, "{body}");
     }
     Ok(())
@@ -91,7 +73,7 @@ fn rows_of_an_opening_are_kept(rt: HostRuntime) -> Result<(), Fail> {
 fn bad_rows_keep_nothing(rt: HostRuntime) -> Result<(), Fail> {
     let alloc = rt.alloc();
     for (part, body) in BAD {
-        let bad = row(alloc, part, body)?;
+        let bad = row(alloc, part, NAME, body)?;
         assert!(rt; again(alloc, &bad) == Err(RowStop::BadRow), "{body}");
     }
     Ok(())
@@ -99,8 +81,8 @@ fn bad_rows_keep_nothing(rt: HostRuntime) -> Result<(), Fail> {
 
 fn load(alloc: Global, last: &str) -> Result<usize, LoadStop> {
     let mut rows = List::new(alloc);
-    rows.push(row(alloc, "allow", ALLOW)?)?;
-    rows.push(row(alloc, "org", last)?)?;
+    rows.push(row(alloc, "allow", NAME, ALLOW)?)?;
+    rows.push(row(alloc, "org", NAME, last)?)?;
     let facts = facts_of_rows(alloc, rows.as_slice())?;
     let count = facts.len();
     let_go(facts);
@@ -118,13 +100,13 @@ fn the_first_bad_row_is_named(rt: HostRuntime) {
 fn changes_are_written(rt: HostRuntime) -> Result<(), Fail> {
     let alloc = rt.alloc();
     let mut wanted = List::new(alloc);
-    wanted.push(RowWrite::Put(row(alloc, "org", ORG)?))?;
+    wanted.push(RowWrite::Put(row(alloc, "org", NAME, ORG)?))?;
     wanted.push(RowWrite::Cut {
         part: Text::of(alloc, "allow")?,
         name: Text::of(alloc, NAME)?,
     })?;
-    let put = row(alloc, "org", ORG)?;
-    let cut = row(alloc, "allow", ALLOW)?;
+    let put = row(alloc, "org", NAME, ORG)?;
+    let cut = row(alloc, "allow", NAME, ALLOW)?;
     assert!(rt; writes(alloc, &put, &cut)? == wanted);
     Ok(())
 }
