@@ -1,4 +1,5 @@
 pub mod Fixed
+pub mod Given
 pub mod Known
 pub mod StoredParts
 pub mod Tests

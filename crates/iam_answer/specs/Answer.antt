@@ -19,14 +19,13 @@ use Rattle.iam_types.specs.declared.refusal.LimitName.TheVariants.{PermissionsAs
 use Rattle.iam_types.specs.declared.refusal.Refusal.{Refusal}
 use Rattle.iam_types.specs.declared.refusal.Refusal.TheVariants.{NotFound, Version, PermissionUnknown}
 use Rattle.iam_types.specs.declared.tables.Tables.{Tables}
-use Rattle.iam_model.specs.AdmitAllow.{unless_allowed, bindings_at, etag_of, is_version, beyond}
+use Rattle.iam_model.specs.Limits.{beyond}
 use Rattle.iam_model.specs.Nodes.{resolve}
+use Rattle.iam_model.specs.Policies.{bindings_at, etag_of}
 use Rattle.iam_model.specs.Refusals.{first_of, refused_if}
-use Rattle.iam_answer.specs.Asking.{decision_of, allowed_of, first_unknown, get_permission}
-
--- a test may ask for so many permissions
-abbrev pub PERMISSIONS_ASKED : ℕ
-PERMISSIONS_ASKED = 100
+use Rattle.iam_model.specs.Shared.{is_version}
+use Rattle.iam_law.specs.Asked.{forbidden}
+use Rattle.iam_answer.specs.Asking.{query_of, allowed_of, first_unknown, get_permission}
 
 -- the answer at the node of the name, else that there is none
 abbrev pub at_node : Tables → NodeName → (NodeId → Answer) → Answer
@@ -42,7 +41,7 @@ abbrev pub unknown_permission : List (List ℕ) → Option Refusal
 unknown_permission permissions = option_map (λ permission. PermissionUnknown (permission_text permission)) (first_unknown permissions)
 
 abbrev pub test_refusals : List (List ℕ) → List (Option Refusal)
-test_refusals permissions = unknown_permission permissions ∷ beyond (length permissions) PERMISSIONS_ASKED PermissionsAsked ∷ []
+test_refusals permissions = unknown_permission permissions ∷ beyond (length permissions) PermissionsAsked ∷ []
 
 abbrev pub test_answer : Tables → NodeId → List (List ℕ) → Caller → Moment → Answer
 test_answer tables node permissions caller moment = unless (test_refusals permissions) (Permissions (allowed_of tables node caller moment permissions))
@@ -51,7 +50,7 @@ test_answer tables node permissions caller moment = unless (test_refusals permis
 
 -- the caller may not read the policy there
 abbrev pub may_not_get : Tables → NodeId → Caller → Moment → Option Refusal
-may_not_get tables node caller moment = unless_allowed (get_permission node.kind) (decision_of tables node caller moment (get_permission node.kind))
+may_not_get tables node caller moment = forbidden tables (query_of node caller moment (get_permission node.kind))
 
 abbrev pub policy_refusals : Tables → NodeId → ℕ → Caller → Moment → List (Option Refusal)
 policy_refusals tables node version caller moment = may_not_get tables node caller moment ∷ refused_if (not (is_version version)) (Version version) ∷ []

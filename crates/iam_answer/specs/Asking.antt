@@ -5,26 +5,18 @@ use Rattle.std.specs.declared.option.Option.{Option}
 use Rattle.iam_text.specs.declared.moment.Moment.{Moment}
 use Rattle.iam_names.specs.declared.caller.Caller.{Caller}
 use Rattle.iam_names.specs.declared.node.NodeKind.{NodeKind}
-use Rattle.iam_names.specs.declared.node.NodeKind.TheVariants.{Organization, Folder, Project}
 use Rattle.iam_names.specs.declared.node.NodeId.{NodeId}
 use Rattle.iam_types.specs.declared.query.Decision.{Decision}
 use Rattle.iam_types.specs.declared.query.Decision.TheVariants.{Allowed, DeniedBoundary, DeniedRule, NotGranted}
 use Rattle.iam_types.specs.declared.query.Query.{Query}
 use Rattle.iam_types.specs.declared.tables.Tables.{Tables}
 use Rattle.iam_model.specs.Catalogue.{is_permission}
-use Rattle.iam_model.specs.Decide.{decide}
-use Rattle.iam_model.specs.ResourceFacts.{facts_of_node}
+use Rattle.iam_law.specs.Asked.{permission_at, query_on}
+use Rattle.iam_law.specs.Decide.{decide}
 
 -- may the caller use the permission on the node, at this moment?
 abbrev pub query_of : NodeId → Caller → Moment → List ℕ → Query
-query_of node caller moment permission = record {
-  caller = caller;
-  node = node;
-  permission = permission;
-  resource = facts_of_node node;
-  moment = moment;
-  modified = [];
-}
+query_of node caller moment permission = query_on caller moment [] permission node
 
 abbrev pub decision_of : Tables → NodeId → Caller → Moment → List ℕ → Decision
 decision_of tables node caller moment permission = decide tables (query_of node caller moment permission)
@@ -48,6 +40,4 @@ first_unknown permissions = find (λ permission. not (is_permission permission))
 
 -- who may read a node's policy
 abbrev pub get_permission : NodeKind → List ℕ
-get_permission Organization = codes "resourcemanager.organizations.getIamPolicy"
-get_permission Folder = codes "resourcemanager.folders.getIamPolicy"
-get_permission Project = codes "resourcemanager.projects.getIamPolicy"
+get_permission kind = permission_at kind (codes "getIamPolicy")

@@ -5,11 +5,10 @@ ghost use Rattle.iam_answer.specs.Answer.{may_not_get, policy_answer, policy_sho
 ghost use Rattle.iam_answer.specs.Asking.{get_permission};
 
 use crate::queries::decision_of;
-use iam_judge::Index;
+use iam_judge::{Index, unless_allowed};
 use iam_names::{Caller, NodeId, NodeKind};
 use iam_tables::{
     Answer, Binding, Refusal, Tables, copy_binding, is_version, permission_named, policy_of,
-    unless_allowed,
 };
 use iam_text::{List, Moment, OutOfMemory};
 use std::alloc::Global;
@@ -25,7 +24,6 @@ fn get_text(kind: NodeKind) -> &'static str
 }
 
 // The refusal of a caller who may not read the policy.
-#[tactic(auto, using(crate::proofs::Known::get_is_known))]
 fn may_not_get(
     alloc: Global,
     index: &Index,

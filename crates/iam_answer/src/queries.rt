@@ -4,9 +4,9 @@ ghost use Rattle.iam_model.specs.Catalogue.{is_permission};
 ghost use Rattle.iam_model.specs.Nodes.{exists};
 ghost use Rattle.iam_answer.specs.Asking.{query_of as the_query, decision_of as the_decision, allows as allows_it};
 
-use iam_judge::Index;
+use iam_judge::{Index, resource_facts_of};
 use iam_names::{Caller, NodeId, PermissionName, copy_caller, copy_permission};
-use iam_tables::{Decision, Query, resource_facts_of};
+use iam_tables::{Decision, Query};
 use iam_text::{List, Moment, OutOfMemory};
 use std::alloc::Global;
 

@@ -1,7 +1,8 @@
 // The bytes of replies.
-ghost use Rattle.std.specs.Prelude.{◌≡◌, IfOk};
-ghost use Rattle.iam_json.specs.Refusals.{line_of};
+ghost use Rattle.std.specs.Prelude.{◌≡◌, IfOk, None};
+ghost use Rattle.iam_json.specs.Refusals.{error_text, line_of};
 ghost use Rattle.iam_answer.specs.Replies.{answer_code, keeper_reply as keeper_bytes, no_memory_reply as the_fixed_reply, plain_reply as plain_bytes, served_reply as served_bytes};
+ghost use Rattle.iam_wire.specs.Reply.{bytes_of};
 
 use iam_json::{Details, ErrorReply, answer_body, code_of, error_body, refusal_code};
 use iam_tables::Answer;
@@ -12,20 +13,35 @@ use std::alloc::Global;
 const NO_MEMORY: &str =
     "HTTP/1.1 507 Insufficient Storage\r\ncontent-type: application/json\r\ncontent-length: 105\r\n\r\n{\"error\":{\"code\":507,\"details\":{\"stored\":false},\"message\":\"OUT_OF_MEMORY\",\"status\":\"RESOURCE_EXHAUSTED\"}}";
 
+// The reply to a refusal that no state gives. It shows no revision.
+fn refused_reply(
+    alloc: Global,
+    error: &ErrorReply,
+    moment: Option<Moment>,
+) -> Result<List<u8>, OutOfMemory>
+    requires { error.now.number ≡ (line_of error.now.details).number }
+    ensures { IfOk result (λ bytes. bytes ≡ bytes_of (record { code = (line_of error.now.details).code; number = None; moment = moment; body = error_text error.now.details })) }
+{
+    let reply = Reply {
+        code: code_of(error),
+        number: None,
+        moment,
+        body: error_body(alloc, error)?,
+    };
+    reply_bytes(alloc, &reply)
+}
+
 /// The reply to a message that is refused whatever the state: it shows neither revision nor moment.
 #[tactic(auto, unfolding(crate::specs::Replies::plain_reply))]
 pub fn plain_reply(alloc: Global, error: &ErrorReply) -> Result<List<u8>, OutOfMemory>
     requires { error.now.number ≡ (line_of error.now.details).number }
     ensures { IfOk result (λ bytes. bytes ≡ plain_bytes error.now.details) }
 {
-    let reply = Reply {
-        code: code_of(error),
-        number: None,
-        moment: None,
-        body: error_body(alloc, error)?,
-    };
-    reply_bytes(alloc, &reply)
+    refused_reply(alloc, error, None)
 }
+
+// Drops a value. A function that drops it by itself has a branch for each kind of the value.
+fn let_go<T: Drop>(_value: T) {}
 
 /// The reply to a write for which the keeper failed: it shows the moment alone.
 #[tactic(auto, unfolding(crate::specs::Replies::keeper_reply))]
@@ -33,13 +49,9 @@ pub fn keeper_reply(alloc: Global, moment: Moment) -> Result<List<u8>, OutOfMemo
     ensures { IfOk result (λ bytes. bytes ≡ keeper_bytes moment) }
 {
     let error = ErrorReply::of(Details::KeeperFault);
-    let reply = Reply {
-        code: code_of(&error),
-        number: None,
-        moment: Some(moment),
-        body: error_body(alloc, &error)?,
-    };
-    reply_bytes(alloc, &reply)
+    let reply = refused_reply(alloc, &error, Some(moment));
+    let_go(error);
+    reply
 }
 
 fn answer_code(answer: &Answer) -> u16

@@ -10,12 +10,9 @@ ghost use Rattle.iam_answer.specs.Asking.{allowed_of, is_allowed as allowed_in};
 use crate::queries::{allows, decision_of};
 use iam_judge::Index;
 use iam_names::{Caller, NodeId, PermissionName, copy_permission};
-use iam_tables::{Answer, Catalogue, LimitName, Refusal, is_permission};
+use iam_tables::{Answer, Catalogue, LimitName, Refusal, is_permission, limit_of};
 use iam_text::{List, Moment, OutOfMemory};
 use std::alloc::Global;
-
-/// A test may ask for so many permissions.
-const PERMISSIONS_ASKED: u64 = 100;
 
 fn is_allowed(
     alloc: Global,
@@ -102,10 +99,11 @@ pub fn test(
         return Ok(Answer::Refused(Refusal::PermissionUnknown { permission }));
     }
     let counted = permissions.len() as u64;
-    if counted > PERMISSIONS_ASKED {
+    let limit = limit_of(LimitName::PermissionsAsked);
+    if counted > limit {
         return Ok(Answer::Refused(Refusal::Limit {
             counted,
-            limit: PERMISSIONS_ASKED,
+            limit,
             which: LimitName::PermissionsAsked,
         }));
     }

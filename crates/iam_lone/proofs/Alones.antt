@@ -6,8 +6,8 @@ use Rattle.iam_outer.specs.declared.keeper.Row.{Row}
 use Rattle.iam_outer.specs.declared.talk.Step.{Step}
 use Rattle.iam_outer.specs.declared.talk.TalkEnd.{TalkEnd}
 use Rattle.iam_types.specs.declared.tables.Tables.{Tables}
-use Rattle.iam_model.specs.Good.{Good}
-use Rattle.iam_model.specs.History.{state, AllAccepted}
+use Rattle.iam_law.specs.Good.{Good}
+use Rattle.iam_law.specs.History.{state, AllAccepted}
 use Rattle.iam_office.specs.Talks.{Talked}
 use Rattle.iam_rows.specs.Kept.{KeepsTables}
 use Rattle.iam_lone.specs.GoingOn.{GoesOn}

@@ -6,11 +6,10 @@ use Rattle.std.proofs.Math.Seq.{get_or-append_seam}
 use Rattle.std.proofs.lemmas.List.{take-append-le, take_all}
 use Rattle.iam_types.specs.declared.command.Entry.{Entry}
 use Rattle.iam_types.specs.declared.tables.Tables.{Tables}
-use Rattle.iam_model.specs.Admit.{admission}
-use Rattle.iam_model.specs.Apply.{after}
-use Rattle.iam_model.specs.Entries.{IsEntry}
-use Rattle.iam_model.specs.Good.{Good}
-use Rattle.iam_model.specs.History.{state, AllAccepted, Legal}
+use Rattle.iam_law.specs.Admit.{admission}
+use Rattle.iam_model.specs.Commands.{IsEntry, after}
+use Rattle.iam_law.specs.Good.{Good}
+use Rattle.iam_law.specs.History.{state, AllAccepted, Legal}
 use Rattle.iam_lone.specs.Histories.{Histories}
 use Rattle.iam_lone.specs.Lone.{IsInStep}
 

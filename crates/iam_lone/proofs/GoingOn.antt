@@ -5,9 +5,9 @@ use Rattle.std.specs.declared.result.Result.{Result}
 use Rattle.iam_types.specs.declared.answer.Answer.{Answer}
 use Rattle.iam_types.specs.declared.command.Entry.{Entry}
 use Rattle.iam_types.specs.declared.tables.Tables.{Tables}
-use Rattle.iam_model.specs.Admit.{admission}
-use Rattle.iam_model.specs.Entries.{IsEntry}
-use Rattle.iam_model.specs.History.{state}
+use Rattle.iam_law.specs.Admit.{admission}
+use Rattle.iam_model.specs.Commands.{IsEntry}
+use Rattle.iam_law.specs.History.{state}
 use Rattle.iam_office.specs.declared.office.Numbered.{Numbered}
 use Rattle.iam_office.specs.declared.office.WriteStop.{WriteStop}
 use Rattle.iam_office.specs.declared.office.WriteStop.TheVariants.{KeeperFault, OutOfMemory}

@@ -12,11 +12,10 @@ use Rattle.iam_types.specs.declared.command.Command.{Command}
 use Rattle.iam_types.specs.declared.command.Entry.{Entry}
 use Rattle.iam_types.specs.declared.refusal.Refusal.{Refusal}
 use Rattle.iam_types.specs.declared.tables.Tables.{Tables}
-use Rattle.iam_model.specs.Admit.{admission}
-use Rattle.iam_model.specs.Apply.{after}
-use Rattle.iam_model.specs.Entries.{IsEntry}
-use Rattle.iam_model.specs.Good.{Good}
-use Rattle.iam_model.specs.History.{state}
+use Rattle.iam_law.specs.Admit.{admission}
+use Rattle.iam_model.specs.Commands.{IsEntry, after}
+use Rattle.iam_law.specs.Good.{Good}
+use Rattle.iam_law.specs.History.{state}
 use Rattle.iam_answer.specs.Answer.{answer_of, written_answer}
 use Rattle.iam_office.specs.Office.{FloorTold, Leads, Number, ReadTold, first, Judged, JudgedAlone, StoredTold, WriteTold, gained, verdict, accepts, accepted_by}
 use Rattle.iam_office.specs.declared.office.FloorStop.TheVariants.{Ahead}

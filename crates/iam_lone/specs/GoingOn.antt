@@ -4,8 +4,8 @@ use Rattle.std.proofs.lemmas.List.{append_assoc}
 use Rattle.std.specs.Prelude.{◌≡◌, refl, List, [], ◌∷◌, ◌++◌}
 use Rattle.iam_types.specs.declared.command.Entry.{Entry}
 use Rattle.iam_types.specs.declared.tables.Tables.{Tables}
-use Rattle.iam_model.specs.Apply.{after}
-use Rattle.iam_model.specs.History.{state, AllAccepted}
+use Rattle.iam_model.specs.Commands.{after}
+use Rattle.iam_law.specs.History.{state, AllAccepted}
 
 -- what an office has come to: its tables, the entry that waits being applied, and the entries
 pub record Standing : Type 0 where

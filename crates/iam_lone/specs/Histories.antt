@@ -2,11 +2,10 @@
 use Rattle.std.specs.Prelude.{◌≡◌, ◌+◌, List, [], ◌∷◌, ◌++◌, None, length}
 use Rattle.iam_types.specs.declared.command.Entry.{Entry}
 use Rattle.iam_types.specs.declared.tables.Tables.{Tables}
-use Rattle.iam_model.specs.Admit.{admission}
-use Rattle.iam_model.specs.Apply.{after}
-use Rattle.iam_model.specs.Entries.{IsEntry}
-use Rattle.iam_model.specs.Good.{Good}
-use Rattle.iam_model.specs.History.{state, Legal}
+use Rattle.iam_law.specs.Admit.{admission}
+use Rattle.iam_model.specs.Commands.{IsEntry, after}
+use Rattle.iam_law.specs.Good.{Good}
+use Rattle.iam_law.specs.History.{state, Legal}
 
 -- they grow by accepted entries, are counted, and keep the tables good
 pub record Histories : Type 0 where

@@ -6,8 +6,8 @@ use Rattle.iam_types.specs.declared.answer.Answer.TheVariants.{Refused}
 use Rattle.iam_types.specs.declared.command.Entry.{Entry}
 use Rattle.iam_types.specs.declared.refusal.Refusal.{Refusal}
 use Rattle.iam_types.specs.declared.tables.Tables.{Tables}
-use Rattle.iam_model.specs.Admit.{admission}
-use Rattle.iam_model.specs.History.{state, Legal}
+use Rattle.iam_law.specs.Admit.{admission}
+use Rattle.iam_law.specs.History.{state, Legal}
 use Rattle.iam_answer.specs.Answer.{written_answer}
 use Rattle.iam_office.specs.declared.office.Numbered.{Numbered}
 use Rattle.iam_office.specs.declared.office.WriteStop.{WriteStop}

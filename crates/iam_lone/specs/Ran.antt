@@ -7,7 +7,7 @@ use Rattle.iam_outer.specs.declared.talk.Step.{Step}
 use Rattle.iam_outer.specs.declared.talk.TalkEnd.{TalkEnd}
 use Rattle.iam_types.specs.declared.command.Entry.{Entry}
 use Rattle.iam_types.specs.declared.tables.Tables.{Tables}
-use Rattle.iam_model.specs.History.{state, Legal}
+use Rattle.iam_law.specs.History.{state, Legal}
 use Rattle.iam_wire.specs.Messages.{BeginsWith}
 use Rattle.iam_wire.specs.declared.message.Message.{Message}
 use Rattle.iam_rows.specs.Kept.{KeepsTables}

@@ -11,6 +11,3 @@ mod storing;
 
 pub use alone::converse_alone;
 pub use lone::Lone;
-
-#[cfg(test)]
-mod tests;

@@ -1,10 +1,10 @@
 // The office of one conversation.
 ghost use Rattle.std.specs.Prelude.{◌≡◌, ◌+◌, ◌≤◌, ◌∷◌, ◌++◌, [], All, true, None, IsErrOf, OnOk, OnErr, List as Items, length};
 ghost use Rattle.iam_admit.specs.Facts.{LeadTo};
-ghost use Rattle.iam_model.specs.Admit.{admission};
-ghost use Rattle.iam_model.specs.Entries.{IsEntry};
-ghost use Rattle.iam_model.specs.Facts.{IsChange};
-ghost use Rattle.iam_model.specs.Good.{Good};
+ghost use Rattle.iam_law.specs.Admit.{admission};
+ghost use Rattle.iam_model.specs.Commands.{IsEntry};
+ghost use Rattle.iam_model.specs.Formed.{IsChange};
+ghost use Rattle.iam_law.specs.Good.{Good};
 ghost use Rattle.iam_outer.specs.Causes.{Rose};
 ghost use Rattle.iam_rows.specs.Kept.{KeepsTables};
 ghost use Rattle.iam_types.specs.declared.command.Entry.{Entry as AnEntry};

@@ -1,7 +1,8 @@
 // The steps of a write over the parts of an office.
 ghost use Rattle.std.specs.Prelude.{◌≡◌, ◌<◌, ◌++◌, ◌∷◌, [], All, List as Items, IfSome, OnOk, OnErr, Some, length, drop};
-ghost use Rattle.iam_model.specs.Facts.{IsChange, with_changes};
-ghost use Rattle.iam_model.specs.History.{state};
+ghost use Rattle.iam_model.specs.Facts.{with_changes};
+ghost use Rattle.iam_model.specs.Formed.{IsChange};
+ghost use Rattle.iam_law.specs.History.{state};
 ghost use Rattle.iam_outer.specs.Rows.{KeeperCause};
 ghost use Rattle.iam_rows.specs.Kept.{AreRows};
 ghost use Rattle.iam_types.specs.declared.command.Entry.{Entry as AnEntry};
@@ -12,7 +13,7 @@ ghost use Rattle.iam_lone.specs.Lone.{IsInStep, IsShown};
 use iam_answer::written;
 use iam_judge::Index;
 use iam_keeping::keep;
-use iam_model::{histories_are_counted, histories_grow, histories_keep_good};
+use iam_law::{histories_are_counted, histories_grow, histories_keep_good};
 use iam_office::{Numbered, WriteStop};
 use iam_outer::{Keeper, KeeperStop};
 use iam_tables::{Answer, Entry, FactChange};

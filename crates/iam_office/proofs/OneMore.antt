@@ -6,7 +6,7 @@ use Rattle.iam_outer.specs.declared.talk.Step.{Step}
 use Rattle.iam_outer.specs.declared.talk.Step.TheVariants.{Plain, Served, NoClock, NoKeeper, NoMemory}
 use Rattle.iam_types.specs.declared.command.Entry.{Entry}
 use Rattle.iam_types.specs.declared.tables.Tables.{Tables}
-use Rattle.iam_model.specs.History.{state}
+use Rattle.iam_law.specs.History.{state}
 use Rattle.iam_json.specs.declared.call.Call.{Call}
 use Rattle.iam_json.specs.declared.call.Call.TheVariants.{Write, Read}
 use Rattle.iam_wire.specs.declared.message.Message.{Message}

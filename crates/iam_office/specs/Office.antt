@@ -10,8 +10,8 @@ use Rattle.iam_types.specs.declared.ask.Ask.{Ask}
 use Rattle.iam_types.specs.declared.command.Entry.{Entry}
 use Rattle.iam_types.specs.declared.refusal.Refusal.{Refusal}
 use Rattle.iam_types.specs.declared.tables.Tables.{Tables}
-use Rattle.iam_model.specs.Admit.{admission}
-use Rattle.iam_model.specs.History.{state}
+use Rattle.iam_law.specs.Admit.{admission}
+use Rattle.iam_law.specs.History.{state}
 use Rattle.iam_answer.specs.Answer.{answer_of, written_answer}
 use Rattle.iam_office.specs.declared.office.Numbered.{Numbered}
 use Rattle.iam_office.specs.declared.office.FloorStop.{FloorStop}

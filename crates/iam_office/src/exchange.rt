@@ -8,7 +8,7 @@ ghost use Rattle.iam_office.specs.Exchange.{AppendsPrefix};
 use iam_outer::{Failed, Line, List, receive, send};
 use std::alloc::Global;
 
-#[derive(Clone, Copy, Debug, PartialEq, Eq)]
+#[derive(Clone, Copy)]
 pub enum ReadStop {
     Fault,
     OutOfMemory,

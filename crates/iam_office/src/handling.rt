@@ -3,7 +3,7 @@ ghost use Rattle.std.specs.Prelude.{◌≡◌, ◌≤◌, [], ◌∷◌, Some};
 ghost use Rattle.std.specs.Bool.{MatchBool};
 ghost use Rattle.iam_answer.specs.Replies.{no_memory_reply as fixed_reply, stored_reply};
 ghost use Rattle.iam_json.specs.Refusals.{line_of};
-ghost use Rattle.iam_model.specs.Entries.{IsEntry, IsCommand};
+ghost use Rattle.iam_model.specs.Commands.{IsEntry, IsCommand};
 ghost use Rattle.iam_names.specs.Caller.{IsCaller};
 ghost use Rattle.iam_outer.specs.Causes.{Rose};
 ghost use Rattle.iam_outer.specs.Given.{AppendsMoments};

@@ -1,7 +1,7 @@
 // What a conversation asks: reads and writes of one history.
 ghost use Rattle.std.specs.Prelude.{◌≡◌, ◌+◌, ◌≤◌, ℕ, List as Items, Bool, IsErrOf};
-ghost use Rattle.iam_model.specs.Entries.{IsEntry};
-ghost use Rattle.iam_model.specs.History.{Legal};
+ghost use Rattle.iam_model.specs.Commands.{IsEntry};
+ghost use Rattle.iam_law.specs.History.{Legal};
 ghost use Rattle.iam_outer.specs.Causes.{Rose};
 
 use iam_names::Caller;
@@ -17,7 +17,7 @@ pub struct Numbered<T> {
 }
 
 /// Why a floor isn't reached: it exceeds the number that is known, or memory was refused.
-#[derive(Clone, Copy, Debug, PartialEq, Eq)]
+#[derive(Clone, Copy)]
 pub enum FloorStop {
     Ahead { known: u64 },
     OutOfMemory,
@@ -25,7 +25,7 @@ pub enum FloorStop {
 
 /// Why a write has no answer: the keeper failed and the write isn't made, or memory was refused; `stored` is the number
 /// of the accepted write, where it is made all the same.
-#[derive(Clone, Copy, Debug, PartialEq, Eq)]
+#[derive(Clone, Copy)]
 pub enum WriteStop {
     KeeperFault,
     OutOfMemory { stored: Option<u64> },

@@ -5,7 +5,7 @@ use iam_keeping::LoadFault;
 use iam_outer::{List, Step};
 
 /// How a run ended.
-#[derive(Clone, Copy, Debug, PartialEq, Eq)]
+#[derive(Clone, Copy, PartialEq, Eq)]
 pub enum Status {
     Done,
     Words,
@@ -61,7 +61,7 @@ impl Status {
 }
 
 /// The end of a run, and what its messages came to, in their order.
-#[derive(Debug, PartialEq, Eq, Drop)]
+#[derive(Drop)]
 pub struct RunEnd {
     pub status: Status,
     pub trace: List<Step>,

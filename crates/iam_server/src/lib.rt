@@ -15,6 +15,3 @@ pub use iam_lone::Lone;
 pub use iam_office::{FloorStop, Numbered, Office, WriteStop, converse};
 pub use plan::{Plan, PlanStop, plan_of};
 pub use runs::run;
-
-#[cfg(test)]
-mod tests;

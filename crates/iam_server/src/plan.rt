@@ -19,7 +19,7 @@ pub enum Plan {
     Apply { opening: Option<Opening> },
 }
 
-#[derive(Clone, Copy, Debug, PartialEq, Eq)]
+#[derive(Clone, Copy)]
 pub enum PlanStop {
     /// The words have none of the forms.
     Words,
@@ -137,13 +137,15 @@ fn read_opening(alloc: Global, pairs: &[Text]) -> Result<Opening, PlanStop>
     let Some(customer) = customer_option(pairs) else {
         return Err(PlanStop::Words);
     };
+    let domain = copy_text(domain)?;
+    let customer = copy_text(customer)?;
     let Some(admin) = admin_option(alloc, pairs)? else {
         return Err(PlanStop::Words);
     };
     Ok(Opening {
         number,
-        domain: copy_text(domain)?,
-        customer: copy_text(customer)?,
+        domain,
+        customer,
         admin,
     })
 }

@@ -1,7 +1,7 @@
 // One run of the program.
 ghost use Rattle.std.specs.Prelude.{◌≡◌, ◌⊎◌, [], IfOk, IfSome};
 ghost use Rattle.std.specs.declared.option.Option.{Option as Opt};
-ghost use Rattle.iam_model.specs.Good.{Good};
+ghost use Rattle.iam_law.specs.Good.{Good};
 ghost use Rattle.iam_model.specs.Opening.{IsOpening};
 ghost use Rattle.iam_outer.specs.Causes.{Rose};
 ghost use Rattle.iam_outer.specs.Given.{AppendsMoments};

@@ -15,7 +15,7 @@ returns-in_default-customer_option-clause-words c = λ _ o opening.
 pub returns-clause-ok : goal.returns-clause-ok
 returns-clause-ok c = record {
   number = c.in-Some.ensures.some;
-  domain = copied (value_of (codes "--domain") c.args.pairs.now) IsDomain c.in_ok-copy_text.field-0 c.in-Some-domain_option.domain.now c.in_ok-copy_text.ensures c.in-Some-domain_option.ensures.some;
-  customer = copied (value_of (codes "--customer") c.args.pairs.now) IsCustomer c.in_ok-copy_text-2.field-0 c.in-Some-customer_option.customer.now c.in_ok-copy_text-2.ensures c.in-Some-customer_option.ensures.some;
+  domain = copied (value_of (codes "--domain") c.args.pairs.now) IsDomain c.in_ok-domain.domain c.in-Some-domain_option.domain.now c.in_ok-domain.ensures c.in-Some-domain_option.ensures.some;
+  customer = copied (value_of (codes "--customer") c.args.pairs.now) IsCustomer c.in_ok-customer.customer c.in-Some-customer_option.customer.now c.in_ok-customer.ensures c.in-Some-customer_option.ensures.some;
   admin = rw c.in-Some-2.is at c.in_ok-admin.ensures;
 }

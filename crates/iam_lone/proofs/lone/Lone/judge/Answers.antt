@@ -1,5 +1,5 @@
 use Rattle.std.proofs.Common.{◌∙◌, ap, refl, sym}
-use Rattle.iam_model.specs.Admit.{admission}
+use Rattle.iam_law.specs.Admit.{admission}
 use Rattle.iam_lone.specs.Lone.{Alone}
 use Rattle.iam_lone.proofs.Standing.{as_no_memory, refused_here}
 use Rattle.iam_lone.proofs.lone.Lone.judge.Goals as goal

@@ -1,0 +1,13 @@
+//! Tests of whole runs over memory, which stand on the run, so that nothing is proved again for its tests.
+#![tactic(auto)]
+
+#[cfg(test)]
+mod asked;
+#[cfg(test)]
+mod keepers;
+#[cfg(test)]
+mod messages;
+#[cfg(test)]
+mod running;
+#[cfg(test)]
+mod settings;
