@@ -1,4 +1,4 @@
-pub mod Place
+pub mod Position
 pub mod Grammar
 pub mod Depth
 pub mod Reader

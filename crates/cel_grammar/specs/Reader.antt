@@ -4,23 +4,23 @@ use denote.Enum.Bare.{sameb}
 use Rattle.cel_tree.specs.declared.tree.Op.{Op}
 use Rattle.cel_tree.specs.declared.tree.Expr.{Expr}
 use Rattle.cel_tree.specs.declared.tree.Expr.TheVariants as tree
-use Rattle.cel_token.specs.declared.sign.Sign.{Sign}
-use Rattle.cel_token.specs.declared.sign.Sign.TheVariants as sign
-use Rattle.cel_token.specs.contracts.sign.Sign.{the_type}
-use Rattle.cel_token.specs.declared.token.Token.{Token}
-use Rattle.cel_token.specs.declared.token.Kind.{Kind}
-use Rattle.cel_token.specs.declared.token.Kind.TheVariants as kind
+use Rattle.cel_tree.specs.declared.token.Sign.{Sign}
+use Rattle.cel_tree.specs.declared.token.Sign.TheVariants as sign
+use Rattle.cel_tree.specs.contracts.token.Sign.{the_type}
+use Rattle.cel_tree.specs.declared.token.Token.{Token}
+use Rattle.cel_tree.specs.declared.token.TokenKind.{TokenKind}
+use Rattle.cel_tree.specs.declared.token.TokenKind.TheVariants as kind
 use Rattle.cel_grammar.specs.declared.level.Level.{Level}
 use Rattle.cel_grammar.specs.declared.level.Level.TheVariants.{Or, And, Rel, Add, Mul}
 use Rattle.cel_grammar.specs.declared.stop.Stop.{Stop}
 use Rattle.cel_grammar.specs.declared.stop.Stop.TheVariants.{OutOfMemory, NotAnExpression}
-use Rattle.cel_grammar.specs.Place.{Place, from, span, sees_number}
+use Rattle.cel_grammar.specs.Position.{Position, start_of, from, span, sees_number}
 use Rattle.cel_grammar.specs.Grammar.{op_of}
 
 abbrev pub Parser : Type 0 → Type 0
-Parser A = Place → Option (A × Place)
+Parser A = Position → Option (A × Position)
 
-abbrev pub and_then : {A B : Type 0} → Option (A × Place) → (A → Parser B) → Option (B × Place)
+abbrev pub and_then : {A B : Type 0} → Option (A × Position) → (A → Parser B) → Option (B × Position)
 and_then None f = None
 and_then (Some p) f = f p.0 p.1
 
@@ -38,7 +38,7 @@ fail = λ i. None
 unfoldable pub same_sign : Sign → Sign → Bool
 same_sign = sameb the_type
 
-abbrev pub is_sign : Sign → Kind → Bool
+abbrev pub is_sign : Sign → TokenKind → Bool
 is_sign x (kind.Sign y) = same_sign y x
 is_sign x _ = false
 
@@ -46,29 +46,29 @@ abbrev pub sees_in : Sign → List Token → Bool
 sees_in x [] = false
 sees_in x (t ∷ rest) = is_sign x t.kind
 
-abbrev pub sees : Sign → Place → Bool
+abbrev pub sees : Sign → Position → Bool
 sees x i = sees_in x i.rest
 
-abbrev pub next_in : ℕ → List Token → Place
+abbrev pub next_in : ℕ → List Token → Position
 next_in last [] = record { last = last; rest = [] }
 next_in last (t ∷ rest) = record { last = t.span.to; rest = rest }
 
-abbrev pub next : Place → Place
+abbrev pub next : Position → Position
 next i = next_in i.last i.rest
 
-abbrev pub first_in : List Token → Option Kind
+abbrev pub first_in : List Token → Option TokenKind
 first_in [] = None
 first_in (t ∷ rest) = Some t.kind
 
-abbrev pub first : Place → Option Kind
+abbrev pub first : Position → Option TokenKind
 first i = first_in i.rest
 
-abbrev pub op_in : Level → Option Kind → Option Op
+abbrev pub op_in : Level → Option TokenKind → Option Op
 op_in l None = None
 op_in l (Some (kind.Sign x)) = op_of l x
 op_in l (Some _) = None
 
-abbrev pub op_at : Level → Place → Option Op
+abbrev pub op_at : Level → Position → Option Op
 op_at l i = op_in l (first i)
 
 -- the first behind the sign, or the second where another token stands
@@ -76,19 +76,19 @@ abbrev pub after : {A : Type 0} → Sign → Parser A → Parser A → Parser A
 after x p q = λ i. if sees x i then p (next i) else q i
 
 -- the next token is a minus that is no part of a literal
-abbrev pub sees_negation : Place → Bool
+abbrev pub sees_negation : Position → Bool
 sees_negation i = if sees sign.Minus i then (if sees_number (next i) then false else true) else false
 
 abbrev pub after_negation : {A : Type 0} → Parser A → Parser A → Parser A
 after_negation p q = λ i. if sees_negation i then p (next i) else q i
 
-abbrev pub eaten : Sign → Place → Place
+abbrev pub eaten : Sign → Position → Position
 eaten x i = if sees x i then next i else i
 
 abbrev pub expect : Sign → Parser (Unit {0})
 expect x = after x (pure tt) fail
 
-abbrev pub name_in : Option Kind → Parser (List ℕ)
+abbrev pub name_in : Option TokenKind → Parser (List ℕ)
 name_in (Some (kind.Name x)) = λ i. Some (x, next i)
 name_in _ = fail
 
@@ -110,7 +110,7 @@ abbrev pub literal : ℕ → Option ℤ → Parser Expr
 literal start None = fail
 literal start (Some n) = λ j. Some (tree.Int (record { from = start; to = j.last }) n, j)
 
-abbrev pub negative_by : ℕ → Option Kind → Parser Expr
+abbrev pub negative_by : ℕ → Option TokenKind → Parser Expr
 negative_by start (Some (kind.Number n)) = λ j. literal start (negated n) (next j)
 negative_by start _ = fail
 
@@ -126,7 +126,7 @@ module _ (w : Parser Expr) where
   unfoldable pub args : Parser (List Expr)
   args = λ i. after sign.CloseParenthesis (pure []) (args_from (length i.rest) []) i
 
-  unfoldable pub called : Place → List ℕ → Parser Expr
+  unfoldable pub called : Position → List ℕ → Parser Expr
   called i x = after sign.OpenParenthesis (args >>= (λ es m. Some (tree.Call (span i m) x es, m))) (λ j. Some (tree.Name (span i j) x, j))
 
   unfoldable pub grouped : Parser Expr
@@ -140,10 +140,10 @@ module _ (w : Parser Expr) where
   unfoldable pub row : Parser (List Expr)
   row = λ i. after sign.CloseBracket (pure []) (row_from (length i.rest) []) i
 
-  unfoldable pub listed : Place → Parser Expr
+  unfoldable pub listed : Position → Parser Expr
   listed i = row >>= (λ es m. Some (tree.Many (span i m) es, m))
 
-  abbrev pub primary_by : Place → Option Kind → Parser Expr
+  abbrev pub primary_by : Position → Option TokenKind → Parser Expr
   primary_by i (Some (kind.Name x)) = called i x
   primary_by i (Some (kind.Sign sign.OpenParenthesis)) = grouped
   primary_by i (Some (kind.Sign sign.OpenBracket)) = listed i
@@ -198,7 +198,7 @@ module _ (w : Parser Expr) where
   abbrev pub chain : Level → Parser Expr
   chain l = chained l (side l)
 
-  unfoldable pub picked : Place → Expr → Parser Expr
+  unfoldable pub picked : Position → Expr → Parser Expr
   picked i c = after sign.Question (chain Or >>= (λ a. after sign.Colon (w >>= (λ b n. Some (tree.Pick (span i n) c a b, n))) fail)) (pure c)
 
   unfoldable pub whole_of : Parser Expr
@@ -212,12 +212,16 @@ abbrev pub finished : Expr → List Token → Option Expr
 finished a [] = Some a
 finished a (t ∷ rest) = None
 
-abbrev pub done : Option (Expr × Place) → Option Expr
+abbrev pub done : Option (Expr × Position) → Option Expr
 done None = None
 done (Some p) = finished p.0 p.1.rest
 
+-- The tree of the tokens, where they have one. Each bracket and each `?` takes a token, so no depth is too small.
+unfoldable pub tree_in : List Token → Option Expr
+tree_in tokens = done (whole_at (length tokens + 1) (start_of tokens))
+
 -- What a reading function returned is what reading gives, unless memory ran out.
-abbrev pub Reads : {A : Type 0} → Option (A × Place) → Result A Stop → Place → Type 0
+abbrev pub Reads : {A : Type 0} → Option (A × Position) → Result A Stop → Position → Type 0
 Reads read (Ok a) j = read ≡ Some (a, j)
 Reads read (Err NotAnExpression) j = read ≡ None
 Reads read (Err OutOfMemory) j = Unit {0}

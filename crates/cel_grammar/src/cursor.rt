@@ -1,17 +1,16 @@
 ghost use Rattle.std.specs.Prelude.{◌≡◌, if◌then◌else◌, length, Some, None};
 ghost use Rattle.std.specs.Option.{option_copied};
-ghost use Rattle.cel_grammar.specs.Place as place;
+ghost use Rattle.cel_grammar.specs.Position as position;
 ghost use Rattle.cel_grammar.specs.Reader as spec;
 ghost use Rattle.cel_grammar.specs.Reader.{Reads};
 
 use crate::level::{Level, op_of};
 use crate::stop::Stop;
-use cel_token::{Kind, Sign, Token};
-use cel_tree::{Op, Span};
+use cel_tree::{Op, Sign, Span, Token, TokenKind};
 use iam_text::Text;
 use std::marker::Model;
 
-/// A place in a list of tokens.
+/// A position in a list of tokens.
 #[derive(Drop)]
 pub struct Cursor<'a> {
     last: u32,
@@ -19,9 +18,9 @@ pub struct Cursor<'a> {
 }
 
 impl<'a> Model for Cursor<'a> {
-    ghost use Rattle.cel_grammar.specs.Place.{Place};
+    ghost use Rattle.cel_grammar.specs.Position.{Position};
 
-    ghost Value = { Place };
+    ghost Value = { Position };
 
     ghost view = { λ c. record { last = c.last; rest = c.rest.now } };
 }
@@ -33,18 +32,18 @@ fn same_sign(a: Sign, b: Sign) -> bool
     a == b
 }
 
-fn is_sign(sign: Sign, kind: &Kind) -> bool
+fn is_sign(sign: Sign, kind: &TokenKind) -> bool
     ensures { result ≡ spec.is_sign sign kind.now }
 {
     match kind {
-        Kind::Sign(x) => same_sign(*x, sign),
+        TokenKind::Sign(x) => same_sign(*x, sign),
         _ => false,
     }
 }
 
 impl<'a> Cursor<'a> {
     pub fn new(tokens: &'a [Token]) -> Cursor<'a>
-        ensures { result ≡ place.start_of tokens.now }
+        ensures { result ≡ position.start_of tokens.now }
     {
         Cursor {
             last: 0,
@@ -61,7 +60,7 @@ impl<'a> Cursor<'a> {
 
     /// Where the next token begins.
     pub fn from(&self) -> u32
-        ensures { result ≡ place.from self.now }
+        ensures { result ≡ position.from self.now }
     {
         match self.rest {
             [first, ..] => first.span.from,
@@ -79,7 +78,7 @@ impl<'a> Cursor<'a> {
         }
     }
 
-    pub fn first(&self) -> Option<&'a Kind>
+    pub fn first(&self) -> Option<&'a TokenKind>
         ensures { option_copied result ≡ spec.first self.now }
     {
         match self.rest {
@@ -108,10 +107,10 @@ impl<'a> Cursor<'a> {
 
     // The next token but one is a number.
     fn number_follows(&self) -> bool
-        ensures { result ≡ place.sees_number (spec.next self.now) }
+        ensures { result ≡ position.sees_number (spec.next self.now) }
     {
         match self.rest {
-            [_, second, ..] => matches!(second.kind, Kind::Number(_)),
+            [_, second, ..] => matches!(second.kind, TokenKind::Number(_)),
             _ => false,
         }
     }
@@ -160,7 +159,7 @@ impl<'a> Cursor<'a> {
     {
         match self.rest {
             [first, ..] => match first.kind {
-                Kind::Sign(sign) => op_of(level, sign),
+                TokenKind::Sign(sign) => op_of(level, sign),
                 _ => None,
             },
             [] => None,
@@ -171,7 +170,7 @@ impl<'a> Cursor<'a> {
         ensures { Reads (spec.name self.old) result self.new }
     {
         match self.first() {
-            Some(Kind::Name(text)) => {
+            Some(TokenKind::Name(text)) => {
                 let text = text.clone()?;
                 self.take();
                 Ok(text)

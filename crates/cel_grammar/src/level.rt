@@ -1,11 +1,10 @@
 ghost use Rattle.std.specs.Prelude.{◌≡◌};
 ghost use Rattle.cel_grammar.specs.Grammar as grammar;
 
-use cel_token::Sign;
-use cel_tree::Op;
+use cel_tree::{Op, Sign};
 
 /// The levels of the binary operators, the loosest first.
-#[derive(Clone, Copy, Debug, PartialEq, Eq)]
+#[derive(Clone, Copy)]
 pub enum Level {
     Or,
     And,
@@ -15,7 +14,7 @@ pub enum Level {
 }
 
 /// What a part of an expression is derived from, the widest first.
-#[derive(Clone, Copy, Debug, PartialEq, Eq)]
+#[derive(Clone, Copy)]
 pub enum Sort {
     Whole,
     Binary(Level),

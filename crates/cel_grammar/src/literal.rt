@@ -7,8 +7,7 @@ ghost use Rattle.cel_grammar.specs.Reader.{Reads};
 use crate::build::int;
 use crate::cursor::Cursor;
 use crate::stop::Stop;
-use cel_token::Kind;
-use cel_tree::{Boxed, Expr};
+use cel_tree::{Boxed, Expr, TokenKind};
 use std::alloc::Global;
 
 // The greatest number behind a minus.
@@ -43,7 +42,7 @@ pub fn negated(number: u64) -> Option<i64>
 pub fn negative(alloc: Global, tokens: &mut Cursor<'_>, from: u32) -> Result<Boxed<Expr>, Stop>
     ensures { Reads (spec.negative from tokens.old) result tokens.new }
 {
-    let Some(Kind::Number(number)) = tokens.first() else {
+    let Some(TokenKind::Number(number)) = tokens.first() else {
         return Err(Stop::NotAnExpression);
     };
     let Some(number) = negated(*number) else {

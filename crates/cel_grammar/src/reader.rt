@@ -10,8 +10,7 @@ use crate::cursor::Cursor;
 use crate::level::Level;
 use crate::literal::{negative, positive};
 use crate::stop::Stop;
-use cel_token::{Kind, Sign, Token};
-use cel_tree::{Boxed, Expr};
+use cel_tree::{Boxed, Expr, Sign, Token, TokenKind};
 use iam_text::{List, Text};
 use std::alloc::Global;
 
@@ -201,7 +200,7 @@ fn primary(alloc: Global, tokens: &mut Cursor<'_>, depth: usize) -> Result<Boxed
     };
     tokens.take();
     match kind {
-        Kind::Name(name) => {
+        TokenKind::Name(name) => {
             let name = name.clone()?;
             if tokens.eat(Sign::OpenParenthesis) {
                 let args = args(alloc, tokens, depth)?;
@@ -210,25 +209,25 @@ fn primary(alloc: Global, tokens: &mut Cursor<'_>, depth: usize) -> Result<Boxed
                 Ok(Boxed::new(alloc, Expr::Name(tokens.span(from), name))?)
             }
         }
-        Kind::Sign(Sign::OpenParenthesis) => {
+        TokenKind::Sign(Sign::OpenParenthesis) => {
             let a = whole(alloc, tokens, depth)?;
             tokens.expect(Sign::CloseParenthesis)?;
             Ok(a)
         }
-        Kind::Sign(Sign::OpenBracket) => {
+        TokenKind::Sign(Sign::OpenBracket) => {
             let es = row(alloc, tokens, depth)?;
             Ok(Boxed::new(alloc, Expr::Many(tokens.span(from), es))?)
         }
-        Kind::Sign(Sign::Minus) => negative(alloc, tokens, from),
-        Kind::Sign(_) => Err(Stop::NotAnExpression),
-        Kind::Truth(b) => Ok(Boxed::new(alloc, Expr::Bool(tokens.span(from), *b))?),
-        Kind::Number(number) => {
+        TokenKind::Sign(Sign::Minus) => negative(alloc, tokens, from),
+        TokenKind::Sign(_) => Err(Stop::NotAnExpression),
+        TokenKind::Truth(b) => Ok(Boxed::new(alloc, Expr::Bool(tokens.span(from), *b))?),
+        TokenKind::Number(number) => {
             let Some(number) = positive(*number) else {
                 return Err(Stop::NotAnExpression);
             };
             Ok(int(alloc, tokens.span(from), number)?)
         }
-        Kind::Str(text) => {
+        TokenKind::Str(text) => {
             let text = text.clone()?;
             Ok(Boxed::new(alloc, Expr::Str(tokens.span(from), text))?)
         }

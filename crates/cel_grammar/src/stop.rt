@@ -5,7 +5,7 @@ use iam_text::OutOfMemory as Refused;
 use std::alloc::AllocError;
 
 /// Why no tree is given.
-#[derive(Clone, Copy, Debug, PartialEq, Eq)]
+#[derive(Clone, Copy)]
 pub enum Stop {
     OutOfMemory,
     NotAnExpression,

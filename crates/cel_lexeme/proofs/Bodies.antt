@@ -1,7 +1,7 @@
 -- One turn of reading a string, item by item.
 use Rattle.std.proofs.Common.{◌≡◌, ℕ, zero, suc, ◌+◌, ◌-◌, ◌<◌, ◌≤◌, Bool, true, false, List, [], ◌∷◌, ◌++◌, length, drop, Option, Some, None, refl, sym, ap, ◌∙◌, arith, append_assoc, append-nil, length-drop, add-one}
 use Rattle.std.specs.Prelude.{◌&&◌, slice_index}
-use Rattle.cel_lexeme.specs.declared.strings.Form.{Form}
+use Rattle.cel_lexeme.specs.declared.strings.StringForm.{StringForm}
 use Rattle.cel_lexeme.specs.declared.strings.Item.{Item}
 use Rattle.cel_lexeme.specs.declared.strings.Item.TheVariants.{Byte, Code}
 use Rattle.cel_lexeme.specs.declared.strings.Body.{Body}
@@ -9,7 +9,7 @@ use Rattle.cel_lexeme.specs.Lexeme.{closes, quotes}
 use Rattle.cel_lexeme.specs.Front.{item_at, item_bytes, item_sound, item_len, behind, with_item, body_from}
 
 -- what is passed over is dropped
-pub passed : (form : Form) (z : List ℕ) (k : ℕ) → body_from form z k ≡ body_from form (drop k z) 0
+pub passed : (form : StringForm) (z : List ℕ) (k : ℕ) → body_from form z k ≡ body_from form (drop k z) 0
 unfolding body_from
 passed form [] zero = refl
 passed form [] (suc k) = refl
@@ -32,7 +32,7 @@ behind_behind v w s t m n (Some body) =
     let g : m + (n + body.len) ≡ (m + n) + body.len = omega arith in
     cc
 
-item : (form : Form) (b : ℕ) (z : List ℕ) (i : Item) → closes form (b ∷ z) ≡ false → item_at form b z ≡ Some i
+item : (form : StringForm) (b : ℕ) (z : List ℕ) (i : Item) → closes form (b ∷ z) ≡ false → item_at form b z ≡ Some i
     → body_from form (b ∷ z) 0 ≡ with_item (body_from form z) (Some i)
 unfolding body_from
 item form b z i c e = rw (c, e) refl
@@ -41,7 +41,7 @@ pub behind_first : (b : ℕ) (z : List ℕ) (i : Item) → drop (item_len i - 1)
 behind_first b z (Byte x) = refl
 behind_first b z (Code code len) = let e : len + 1 - 1 ≡ len = omega arith in rw (e, add-one) refl
 
-pub turn : (form : Form) (b : ℕ) (z value : List ℕ) (sound : Bool) (i : Item) (n : ℕ) → closes form (b ∷ z) ≡ false → item_at form b z ≡ Some i
+pub turn : (form : StringForm) (b : ℕ) (z value : List ℕ) (sound : Bool) (i : Item) (n : ℕ) → closes form (b ∷ z) ≡ false → item_at form b z ≡ Some i
     → item_len i ≤ length (b ∷ z) → length (b ∷ z) ≤ n
     → behind value sound (n - length (b ∷ z)) (body_from form (b ∷ z) 0)
     ≡ behind (value ++ item_bytes i) (sound && item_sound i) (n - length (drop (item_len i) (b ∷ z))) (body_from form (drop (item_len i) (b ∷ z)) 0)
@@ -54,38 +54,38 @@ turn form b z value sound i n c e fits within =
     ∙ behind_behind value (item_bytes i) sound (item_sound i) (n - length (b ∷ z)) (item_len i) rest
     ∙ ap (λ m. behind (value ++ item_bytes i) (sound && item_sound i) m rest) len
 
-pub closed : (form : Form) (b : ℕ) (z value : List ℕ) (sound : Bool) (n : ℕ) → closes form (b ∷ z) ≡ true
+pub closed : (form : StringForm) (b : ℕ) (z value : List ℕ) (sound : Bool) (n : ℕ) → closes form (b ∷ z) ≡ true
     → behind value sound n (body_from form (b ∷ z) 0) ≡ Some (record { value = value; sound = sound; len = n + length (quotes form) })
 unfolding body_from
 closed form b z value sound n c = let e = append-nil value in let f = and_true sound in rw c cc
 
-pub refused : (form : Form) (b : ℕ) (z value : List ℕ) (sound : Bool) (n : ℕ) → closes form (b ∷ z) ≡ false → item_at form b z ≡ None
+pub refused : (form : StringForm) (b : ℕ) (z value : List ℕ) (sound : Bool) (n : ℕ) → closes form (b ∷ z) ≡ false → item_at form b z ≡ None
     → behind value sound n (body_from form (b ∷ z) 0) ≡ None
 unfolding body_from
 refused form b z value sound n c e = rw (c, e) refl
 
-pub ended : (form : Form) (value : List ℕ) (sound : Bool) (n : ℕ) → behind value sound n (body_from form [] 0) ≡ None
+pub ended : (form : StringForm) (value : List ℕ) (sound : Bool) (n : ℕ) → behind value sound n (body_from form [] 0) ≡ None
 unfolding body_from
 ended form value sound n = refl
 
 -- the same at a text that is not empty
-pub turn_at : (form : Form) (rest value : List ℕ) (sound : Bool) (i : Item) (n : ℕ) → 0 < length rest → closes form rest ≡ false
+pub turn_at : (form : StringForm) (rest value : List ℕ) (sound : Bool) (i : Item) (n : ℕ) → 0 < length rest → closes form rest ≡ false
     → item_at form (slice_index rest 0) (drop 1 rest) ≡ Some i → item_len i ≤ length rest → length rest ≤ n
     → behind value sound (n - length rest) (body_from form rest 0)
     ≡ behind (value ++ item_bytes i) (sound && item_sound i) (n - length (drop (item_len i) rest)) (body_from form (drop (item_len i) rest) 0)
 turn_at form [] value sound i n some = absurd (omega (arith, some))
 turn_at form (b ∷ z) value sound i n some = turn form b z value sound i n
 
-pub closed_at : (form : Form) (rest value : List ℕ) (sound : Bool) (n : ℕ) → 0 < length rest → closes form rest ≡ true
+pub closed_at : (form : StringForm) (rest value : List ℕ) (sound : Bool) (n : ℕ) → 0 < length rest → closes form rest ≡ true
     → behind value sound n (body_from form rest 0) ≡ Some (record { value = value; sound = sound; len = n + length (quotes form) })
 closed_at form [] value sound n some = absurd (omega (arith, some))
 closed_at form (b ∷ z) value sound n some = closed form b z value sound n
 
-pub refused_at : (form : Form) (rest value : List ℕ) (sound : Bool) (n : ℕ) → 0 < length rest → closes form rest ≡ false
+pub refused_at : (form : StringForm) (rest value : List ℕ) (sound : Bool) (n : ℕ) → 0 < length rest → closes form rest ≡ false
     → item_at form (slice_index rest 0) (drop 1 rest) ≡ None → behind value sound n (body_from form rest 0) ≡ None
 refused_at form [] value sound n some = absurd (omega (arith, some))
 refused_at form (b ∷ z) value sound n some = refused form b z value sound n
 
-pub ended_at : (form : Form) (rest value : List ℕ) (sound : Bool) (n : ℕ) → length rest ≡ 0 → behind value sound n (body_from form rest 0) ≡ None
+pub ended_at : (form : StringForm) (rest value : List ℕ) (sound : Bool) (n : ℕ) → length rest ≡ 0 → behind value sound n (body_from form rest 0) ≡ None
 ended_at form [] value sound n none = ended form value sound n
 ended_at form (b ∷ z) value sound n none = absurd (omega (arith, none))

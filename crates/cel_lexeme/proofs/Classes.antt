@@ -3,7 +3,7 @@ use Rattle.std.proofs.Common.{◌≡◌, ℕ, Bool, true, false, List, Some, ref
 use Rattle.std.specs.Prelude.{◌==◌, ◌&&◌, min, nat_le, ◌^◌, slice_index}
 use Rattle.std.specs.Char.{is_digit, is_ascii_digit}
 use Rattle.std.proofs.lemmas.Bool.Decides.{nat_tests}
-use Rattle.cel_token.specs.Spelling.{is_letter, is_word_byte}
+use Rattle.cel_tree.specs.Spelling.{is_letter, is_word_byte}
 use Rattle.cel_lexeme.specs.Lexeme.{is_quote, is_raw_mark, number_lexeme}
 use Rattle.cel_lexeme.specs.Front.{beyond, lexeme_at, raw_at, word_at, number_at, string_at, sign_at}
 

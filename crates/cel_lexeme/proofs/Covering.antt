@@ -5,13 +5,13 @@ use Rattle.std.specs.Char.{is_digit, is_ascii_digit}
 use Rattle.std.specs.List.{prefix_len, list_all}
 use Rattle.std.proofs.lemmas.Bool.{and_parts, and_from, eqb-true, eq-eqb, both_ways}
 use Rattle.std.proofs.Math.Seq.{take-append_seam, drop-append_seam}
-use Rattle.cel_token.specs.declared.sign.Sign.{Sign}
-use Rattle.cel_token.specs.declared.sign.Sign.TheVariants as variant
-use Rattle.cel_token.specs.declared.token.Kind.TheVariants as kind
-use Rattle.cel_token.specs.Spelling.{spelling, is_letter, is_word_byte, is_word}
+use Rattle.cel_tree.specs.declared.token.Sign.{Sign}
+use Rattle.cel_tree.specs.declared.token.Sign.TheVariants as variant
+use Rattle.cel_tree.specs.declared.token.TokenKind.TheVariants as kind
+use Rattle.cel_tree.specs.Spelling.{spelling, is_letter, is_word_byte, is_word}
 use Rattle.cel_lexeme.specs.declared.lexeme.Lexeme.{Lexeme}
 use Rattle.cel_lexeme.specs.declared.lexeme.Lexeme.TheVariants.{Token}
-use Rattle.cel_lexeme.specs.declared.strings.Form.{Form}
+use Rattle.cel_lexeme.specs.declared.strings.StringForm.{StringForm}
 use Rattle.cel_lexeme.specs.declared.strings.Body as row
 use Rattle.cel_lexeme.specs.Lexeme.{Spells, Body, is_quote, is_raw_mark, quotes, closes, number, number_lexeme, all_digits, word_lexeme, string_lexeme}
 use Rattle.cel_lexeme.specs.Lexeme as spec
@@ -56,11 +56,11 @@ word_raw w r (Some t) h l some =
     let n = some t refl in
     record { found = (t.0, t.1 + 1); is = refl; long = omega (arith, l); same = λ e. absurd (omega (arith, e, l, n)) }
 
-string_len : (form : Form) (o : Option row.Body) (t : Lexeme × ℕ) → string_of (length (quotes form)) o ≡ Some t → length (quotes form) ≤ t.1
+string_len : (form : StringForm) (o : Option row.Body) (t : Lexeme × ℕ) → string_of (length (quotes form)) o ≡ Some t → length (quotes form) ≤ t.1
 string_len form None t e = cc
 string_len form (Some body) t e = subst (λ (t : Lexeme × ℕ). length (quotes form) ≤ t.1) (some_is e) (omega arith)
 
-long_is : (form : Form) (z : List ℕ) (t : Lexeme × ℕ) → long_at form z ≡ Some t → (closes form z ≡ true) × (length (quotes form) ≤ t.1)
+long_is : (form : StringForm) (z : List ℕ) (t : Lexeme × ℕ) → long_at form z ≡ Some t → (closes form z ≡ true) × (length (quotes form) ≤ t.1)
 long_is form z t e = go (closes form z) refl e
   where
     go : (c : Bool) → closes form z ≡ c → cond c (form_at form z) None ≡ Some t → (closes form z ≡ true) × (length (quotes form) ≤ t.1)
@@ -71,10 +71,10 @@ pub at_some : (raw : Bool) (z : List ℕ) (t : Lexeme × ℕ) → string_at raw 
 unfolding string_at
 at_some raw z t e = go (long_at long z) refl e
   where
-    long : Form
+    long : StringForm
     long = record { quote = slice_index z 0; long = true; raw = raw }
 
-    short : Form
+    short : StringForm
     short = record { quote = slice_index z 0; long = false; raw = raw }
 
     go : (o : Option (Lexeme × ℕ)) → long_at long z ≡ o → or_else o (form_at short z) ≡ Some t → 0 < t.1
@@ -148,19 +148,19 @@ hexadecimal_covers d ds r a =
     covers (number_lexeme (number 16 (d ∷ ds))) (48 ∷ 120 ∷ d ∷ ds) (at_digit (48 ∷ 120 ∷ d ∷ (ds ++ r)) refl refl refl) (hexadecimal_front d ds r a)
 
 -- strings
-form_front : (form : Form) (sound : Bool) (value w r : List ℕ) → is_quote form.quote ≡ true → Body form sound value w
+form_front : (form : StringForm) (sound : Bool) (value w r : List ℕ) → is_quote form.quote ≡ true → Body form sound value w
     → form_at form (quotes form ++ (w ++ r)) ≡ Some (string_lexeme sound value, length (quotes form ++ w))
 form_front form sound value w r q body =
     ap (λ (y : List ℕ). string_of (length (quotes form)) (body_at form y)) (drop-append_seam (quotes form) (w ++ r))
     ∙ ap (string_of (length (quotes form))) (read body q r)
     ∙ ap (λ n. Some (string_lexeme sound value, n)) (sym (length-append (quotes form) w))
 
-long_front : (form : Form) (sound : Bool) (value w r : List ℕ) → is_quote form.quote ≡ true → Body form sound value w
+long_front : (form : StringForm) (sound : Bool) (value w r : List ℕ) → is_quote form.quote ≡ true → Body form sound value w
     → long_at form (quotes form ++ (w ++ r)) ≡ Some (string_lexeme sound value, length (quotes form ++ w))
 long_front form sound value w r q body = rw (quotes_close form (w ++ r)) (form_front form sound value w r q body)
 
 -- a short string that a quote follows is empty
-empty_short : (form : Form) (sound : Bool) (value w r : List ℕ) → is_quote form.quote ≡ true → form.long ≡ false → Body form sound value w → slice_index (w ++ r) 0 ≡ form.quote → length w ≡ 1
+empty_short : (form : StringForm) (sound : Bool) (value w r : List ℕ) → is_quote form.quote ≡ true → form.long ≡ false → Body form sound value w → slice_index (w ++ r) 0 ≡ form.quote → length w ≡ 1
 unfolding body_from
 empty_short form sound value w r q s body e = go (w ++ r) (read body q r) e
   where
@@ -177,7 +177,7 @@ string_covers : (q : ℕ) (long raw sound : Bool) (value w r : List ℕ) → is_
     → Covers (string_at raw (quotes (record { quote = q; long = long; raw = raw }) ++ (w ++ r))) (string_lexeme sound value) (quotes (record { quote = q; long = long; raw = raw }) ++ w)
 unfolding string_at
 string_covers q true raw sound value w r h body =
-    let form : Form = record { quote = q; long = true; raw = raw } in
+    let form : StringForm = record { quote = q; long = true; raw = raw } in
     record {
       found = (string_lexeme sound value, length (quotes form ++ w));
       is = ap (λ o. or_else o (form_at (record { quote = q; long = false; raw = raw }) (quotes form ++ (w ++ r)))) (long_front form sound value w r h body);
@@ -186,10 +186,10 @@ string_covers q true raw sound value w r h body =
     }
 string_covers q false raw sound value w r h body = go (long_at long z) refl
   where
-    long : Form
+    long : StringForm
     long = record { quote = q; long = true; raw = raw }
 
-    short : Form
+    short : StringForm
     short = record { quote = q; long = false; raw = raw }
 
     z : List ℕ

@@ -9,14 +9,14 @@ use Rattle.cel_lexeme.proofs.Quoted.{closed, body_is}
 use Rattle.std.proofs.lemmas.Bool.{eq-eqb, and_parts, and_from, ltb-true, leb-true, or_from, not_from_false}
 use Rattle.std.proofs.lemmas.List.{take-append-drop}
 use Rattle.std.proofs.lemmas.Str.Ascii.{IsAscii-nil, IsAscii-cons}
-use Rattle.cel_token.specs.declared.sign.Sign.{Sign}
-use Rattle.cel_token.specs.declared.sign.Sign.TheVariants as variant
-use Rattle.cel_token.specs.declared.token.Kind.{Kind}
-use Rattle.cel_token.specs.declared.token.Kind.TheVariants as kind
-use Rattle.cel_token.specs.Spelling.{spelling, is_letter, is_word_byte, is_word, is_reserved, is_grammar_word, IsProper}
+use Rattle.cel_tree.specs.declared.token.Sign.{Sign}
+use Rattle.cel_tree.specs.declared.token.Sign.TheVariants as variant
+use Rattle.cel_tree.specs.declared.token.TokenKind.{TokenKind}
+use Rattle.cel_tree.specs.declared.token.TokenKind.TheVariants as kind
+use Rattle.cel_tree.specs.Spelling.{spelling, is_letter, is_word_byte, is_word, is_reserved, is_grammar_word, IsProper, is_name}
 use Rattle.cel_lexeme.specs.declared.lexeme.Lexeme.{Lexeme}
 use Rattle.cel_lexeme.specs.declared.lexeme.Lexeme.TheVariants.{Token, Reserved, Bad}
-use Rattle.cel_lexeme.specs.declared.strings.Form.{Form}
+use Rattle.cel_lexeme.specs.declared.strings.StringForm.{StringForm}
 use Rattle.cel_lexeme.specs.Lexeme.{Spells, Body, IsLongest, HasNone, is_quote, is_raw_mark, quotes, closes, word_lexeme, number_lexeme, string_lexeme}
 use Rattle.cel_lexeme.specs.Lexeme as spec
 use Rattle.cel_lexeme.specs.Front.{lexeme_at, body_at}
@@ -108,7 +108,7 @@ word_is_ascii (b ∷ bs) h =
     ascii is_word_byte (b ∷ bs) word_ascii (and_from (is_word_byte b) _ (letter_word b p.0) p.1)
 
 -- what is behind a lexeme of a text is a text
-quoted_rest : (form : Form) (sound : Bool) (value w r : List ℕ) → is_quote form.quote ≡ true → Body form sound value w → IsUtf8 ((quotes form ++ w) ++ r) → IsUtf8 value × IsUtf8 r
+quoted_rest : (form : StringForm) (sound : Bool) (value w r : List ℕ) → is_quote form.quote ≡ true → Body form sound value w → IsUtf8 ((quotes form ++ w) ++ r) → IsUtf8 value × IsUtf8 r
 quoted_rest form sound value w r q body u =
     let k = cut body q [] r (opened form (w ++ r) q (subst IsUtf8 (append_assoc (quotes form) w r) u)) in
     (k.value, k.rest)
@@ -130,6 +130,7 @@ IsProperLexeme Reserved = Unit {0}
 IsProperLexeme Bad = Unit {0}
 
 proper_word : (w : List ℕ) → is_word w ≡ true → IsProperLexeme (word_lexeme w)
+unfolding is_name
 proper_word w h = go (bytes_eq w (codes "in")) (bytes_eq w (codes "true")) (bytes_eq w (codes "false")) (is_reserved w) refl refl refl refl
   where
     go : (i t f r : Bool) → bytes_eq w (codes "in") ≡ i → bytes_eq w (codes "true") ≡ t → bytes_eq w (codes "false") ≡ f → is_reserved w ≡ r
@@ -165,19 +166,19 @@ proper_of (spec.raw_string {r = b} {form = form} {sound = sound} {value = value}
 pub rest_is : (z : List ℕ) (l : Lexeme) (n : ℕ) → IsUtf8 z → IsLongest z l n → IsUtf8 (drop n z)
 rest_is z l n u k = rest_of k.spelled (drop n z) (subst IsUtf8 (sym (take-append-drop n z)) u)
 
-pub proper : (z : List ℕ) (k : Kind) (n : ℕ) → IsUtf8 z → IsLongest z (Token k) n → IsProper k
+pub proper : (z : List ℕ) (k : TokenKind) (n : ℕ) → IsUtf8 z → IsLongest z (Token k) n → IsProper k
 proper z k n u h = proper_of h.spelled (drop n z) (subst IsUtf8 (sym (take-append-drop n z)) u)
 
 -- what the readers take a text from is one
 pub word_utf8 : (z : List ℕ) → IsUtf8 (take (prefix_len is_word_byte z) z)
 word_utf8 z = IsUtf8-from_ascii _ (ascii is_word_byte (take (prefix_len is_word_byte z) z) word_ascii (prefix_take is_word_byte z))
 
-pub body_utf8 : (form : Form) (z : List ℕ) (body : row.Body) → is_quote form.quote ≡ true → IsUtf8 z → body_at form z ≡ Some body → IsUtf8 body.value
+pub body_utf8 : (form : StringForm) (z : List ℕ) (body : row.Body) → is_quote form.quote ≡ true → IsUtf8 z → body_at form z ≡ Some body → IsUtf8 body.value
 body_utf8 form z body q u e =
     let b = body_is form z body q e in
     (cut b.shown q [] (drop body.len z) (subst IsUtf8 (sym (take-append-drop body.len z)) u)).value
 
-pub opened_utf8 : (form : Form) (z : List ℕ) → is_quote form.quote ≡ true → closes form z ≡ true → IsUtf8 z → IsUtf8 (drop (length (quotes form)) z)
+pub opened_utf8 : (form : StringForm) (z : List ℕ) → is_quote form.quote ≡ true → closes form z ≡ true → IsUtf8 z → IsUtf8 (drop (length (quotes form)) z)
 opened_utf8 form z q c u =
     let k = closed form z q c in
     opened form (drop (length (quotes form)) z) q

@@ -2,8 +2,8 @@
 use Rattle.std.proofs.Common.{◌≡◌, ℕ, ◌<◌, Bool, true, false, cond, [], ◌∷◌, Option, Some, refl, sym, subst, arith}
 use Rattle.std.specs.Prelude.{◌==◌, ◌&&◌}
 use Rattle.std.proofs.lemmas.Bool.{eqb-true}
-use Rattle.cel_token.specs.declared.sign.Sign.{Sign}
-use Rattle.cel_token.specs.Spelling.{spelling}
+use Rattle.cel_tree.specs.declared.token.Sign.{Sign}
+use Rattle.cel_tree.specs.Spelling.{spelling}
 use Rattle.cel_lexeme.specs.Front.{sign_one, sign_two}
 use Rattle.cel_lexeme.proofs.Tests.{some_is, chain}
 

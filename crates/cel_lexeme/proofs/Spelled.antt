@@ -5,12 +5,12 @@ use Rattle.std.specs.Char.{is_digit, is_ascii_digit}
 use Rattle.std.specs.List.{prefix_len}
 use Rattle.std.proofs.lemmas.Bool.{and_parts, and_from, eqb-true, eq-eqb, false≢true}
 use Rattle.std.proofs.lemmas.List.Sums.{prefix_len-le-length}
-use Rattle.cel_token.specs.declared.sign.Sign.{Sign}
-use Rattle.cel_token.specs.declared.token.Kind.TheVariants as kind
-use Rattle.cel_token.specs.Spelling.{is_letter, is_word_byte}
+use Rattle.cel_tree.specs.declared.token.Sign.{Sign}
+use Rattle.cel_tree.specs.declared.token.TokenKind.TheVariants as kind
+use Rattle.cel_tree.specs.Spelling.{is_letter, is_word_byte}
 use Rattle.cel_lexeme.specs.declared.lexeme.Lexeme.{Lexeme}
 use Rattle.cel_lexeme.specs.declared.lexeme.Lexeme.TheVariants.{Token}
-use Rattle.cel_lexeme.specs.declared.strings.Form.{Form}
+use Rattle.cel_lexeme.specs.declared.strings.StringForm.{StringForm}
 use Rattle.cel_lexeme.specs.declared.strings.Body as row
 use Rattle.cel_lexeme.specs.Lexeme.{Spells, Body, is_quote, is_raw_mark, quotes, closes, number, number_lexeme, all_digits, word_lexeme, string_lexeme}
 use Rattle.cel_lexeme.specs.Lexeme as spec
@@ -101,7 +101,7 @@ number_is (b ∷ y) d = go (is_hexadecimal (b ∷ y)) refl
 
 -- strings
 pub record IsQuoted (raw : Bool) (z : List ℕ) (t : Lexeme × ℕ) : Type 0 where
-  pub form : Form
+  pub form : StringForm
   pub sound : Bool
   pub value : List ℕ
   pub bytes : List ℕ
@@ -113,14 +113,14 @@ pub record IsQuoted (raw : Bool) (z : List ℕ) (t : Lexeme × ℕ) : Type 0 whe
   pub within : t.1 ≤ length z
   pub some : 0 < t.1
 
-quotes_some : (form : Form) → 0 < length (quotes form)
+quotes_some : (form : StringForm) → 0 < length (quotes form)
 quotes_some form = go form.long
   where
     go : (long : Bool) → 0 < length (quotes (record form { long = long }))
     go true = omega arith
     go false = omega arith
 
-form_is : (form : Form) (z : List ℕ) (t : Lexeme × ℕ) → is_quote form.quote ≡ true → IsClosed form z → form_at form z ≡ Some t → IsQuoted form.raw z t
+form_is : (form : StringForm) (z : List ℕ) (t : Lexeme × ℕ) → is_quote form.quote ≡ true → IsClosed form z → form_at form z ≡ Some t → IsQuoted form.raw z t
 form_is form z t q c e = go (body_at form (drop (length (quotes form)) z)) refl e
   where
     n : ℕ
@@ -148,10 +148,10 @@ pub string_is : (raw : Bool) (z : List ℕ) (t : Lexeme × ℕ) → is_quote (sl
 unfolding string_at
 string_is raw z t q e = go (closes long z) refl (form_at long z) refl e
   where
-    long : Form
+    long : StringForm
     long = record { quote = slice_index z 0; long = true; raw = raw }
 
-    short : Form
+    short : StringForm
     short = record { quote = slice_index z 0; long = false; raw = raw }
 
     opens : closes short z ≡ true

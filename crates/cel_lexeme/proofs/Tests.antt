@@ -6,7 +6,7 @@ use Rattle.std.specs.List.{prefix_len, list_all}
 use lib.Utf8.{scalar}
 use Rattle.std.proofs.lemmas.Bool.{and_parts, and_from, eqb-true}
 use Rattle.std.proofs.lemmas.Bool.Decides.{nat_tests}
-use Rattle.cel_token.specs.Spelling.{is_word_byte}
+use Rattle.cel_tree.specs.Spelling.{is_word_byte}
 use Rattle.cel_lexeme.specs.Lexeme.{is_quote, is_raw_mark, escape_code, hexadecimal_len, utf8}
 use Rattle.cel_lexeme.specs.Front.{beyond}
 

@@ -4,7 +4,7 @@ use Rattle.std.specs.Str.{IsUtf8, IsAscii}
 use Rattle.std.proofs.lemmas.Str.{IsUtf8-nil, IsUtf8-append, IsUtf8-encode, IsUtf8-take, IsUtf8-drop, IsCharBoundary-before_ascii, IsCharBoundary-after_ascii}
 use Rattle.std.proofs.Math.Seq.{take-append_seam, drop-append_seam}
 use lib.Utf8.{scalar}
-use Rattle.cel_lexeme.specs.declared.strings.Form.{Form}
+use Rattle.cel_lexeme.specs.declared.strings.StringForm.{StringForm}
 use Rattle.cel_lexeme.specs.Lexeme.{Body, is_quote, quotes, utf8}
 use Rattle.cel_lexeme.specs.Lexeme as spec
 use Rattle.cel_lexeme.proofs.Tests.{quote_ascii}
@@ -51,7 +51,7 @@ utf8_is code = go (scalar code) refl
     go true h = rw h (IsUtf8-encode code h)
     go false h = rw h IsUtf8-nil
 
-quotes_ascii : (form : Form) → is_quote form.quote ≡ true → (z : List ℕ) → IsUtf8 (quotes form ++ z) → IsUtf8 z
+quotes_ascii : (form : StringForm) → is_quote form.quote ≡ true → (z : List ℕ) → IsUtf8 (quotes form ++ z) → IsUtf8 z
 quotes_ascii form q z u = go form.long u
   where
     l : form.quote < 128
@@ -61,10 +61,10 @@ quotes_ascii form q z u = go form.long u
     go true u = cut_behind [] z form.quote l (cut_behind [] _ form.quote l (cut_behind [] _ form.quote l u))
     go false u = cut_behind [] z form.quote l u
 
-pub opened : (form : Form) (z : List ℕ) → is_quote form.quote ≡ true → IsUtf8 (quotes form ++ z) → IsUtf8 z
+pub opened : (form : StringForm) (z : List ℕ) → is_quote form.quote ≡ true → IsUtf8 (quotes form ++ z) → IsUtf8 z
 opened form z q u = quotes_ascii form q z u
 
-before_quotes : (form : Form) (run z : List ℕ) → is_quote form.quote ≡ true → IsUtf8 (run ++ (quotes form ++ z)) → IsUtf8 run
+before_quotes : (form : StringForm) (run z : List ℕ) → is_quote form.quote ≡ true → IsUtf8 (run ++ (quotes form ++ z)) → IsUtf8 run
 before_quotes form run z q u = go form.long u
   where
     l : form.quote < 128
@@ -74,7 +74,7 @@ before_quotes form run z q u = go form.long u
     go true u = cut_before run _ form.quote l u
     go false u = cut_before run _ form.quote l u
 
-from_quotes : (form : Form) (run z : List ℕ) → is_quote form.quote ≡ true → IsUtf8 (run ++ (quotes form ++ z)) → IsUtf8 (quotes form ++ z)
+from_quotes : (form : StringForm) (run z : List ℕ) → is_quote form.quote ≡ true → IsUtf8 (run ++ (quotes form ++ z)) → IsUtf8 (quotes form ++ z)
 from_quotes form run z q u = go form.long u
   where
     l : form.quote < 128
@@ -99,7 +99,7 @@ escaped code bytes run value z r e u go =
     let rest = go (behind_ascii bytes (z ++ r) s.ascii from) in
     record { value = IsUtf8-append run (utf8 code ++ value) before (IsUtf8-append (utf8 code) value (utf8_is code) rest.value); rest = rest.rest }
 
-pub cut : {form : Form} {sound : Bool} {value w : List ℕ} → Body form sound value w → is_quote form.quote ≡ true → (run r : List ℕ) → IsUtf8 (run ++ (w ++ r)) → IsCut run value r
+pub cut : {form : StringForm} {sound : Bool} {value w : List ℕ} → Body form sound value w → is_quote form.quote ≡ true → (run r : List ℕ) → IsUtf8 (run ++ (w ++ r)) → IsCut run value r
 cut (spec.close {form = form}) q run r u =
     record { value = subst IsUtf8 (sym (append-nil run)) (before_quotes form run r q u); rest = quotes_ascii form q r (from_quotes form run r q u) }
 cut (spec.plain {form = form} {b = b} {value = value} {z = z} c m body) q run r u =

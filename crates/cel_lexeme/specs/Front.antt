@@ -3,13 +3,13 @@ use Rattle.std.specs.Prelude.{ℕ, zero, suc, ◌+◌, ◌-◌, ◌^◌, min, Bo
 use Rattle.std.specs.Char.{is_digit, is_ascii_digit}
 use Rattle.std.specs.List.{prefix_len}
 use lib.Utf8.{scalar}
-use Rattle.cel_token.specs.declared.sign.Sign.{Sign}
-use Rattle.cel_token.specs.declared.sign.Sign.TheVariants as sign
-use Rattle.cel_token.specs.declared.token.Kind.TheVariants as kind
-use Rattle.cel_token.specs.Spelling.{is_letter, is_word_byte}
+use Rattle.cel_tree.specs.declared.token.Sign.{Sign}
+use Rattle.cel_tree.specs.declared.token.Sign.TheVariants as sign
+use Rattle.cel_tree.specs.declared.token.TokenKind.TheVariants as kind
+use Rattle.cel_tree.specs.Spelling.{is_letter, is_word_byte}
 use Rattle.cel_lexeme.specs.declared.lexeme.Lexeme.{Lexeme}
 use Rattle.cel_lexeme.specs.declared.lexeme.Lexeme.TheVariants.{Token}
-use Rattle.cel_lexeme.specs.declared.strings.Form.{Form}
+use Rattle.cel_lexeme.specs.declared.strings.StringForm.{StringForm}
 use Rattle.cel_lexeme.specs.declared.strings.Item.{Item}
 use Rattle.cel_lexeme.specs.declared.strings.Item.TheVariants.{Byte, Code}
 use Rattle.cel_lexeme.specs.declared.strings.Body.{Body}
@@ -62,7 +62,7 @@ abbrev pub code_item : Option (ℕ × ℕ) → Option Item
 code_item None = None
 code_item (Some escape) = Some (Code escape.0 escape.1)
 
-abbrev pub item_at : Form → ℕ → List ℕ → Option Item
+abbrev pub item_at : StringForm → ℕ → List ℕ → Option Item
 item_at form b z = if b == 92 && not form.raw then code_item (escape_at z) else (if may_stand form b then Some (Byte b) else None)
 
 abbrev pub behind : List ℕ → Bool → ℕ → Option Body → Option Body
@@ -74,14 +74,14 @@ with_item go None = None
 with_item go (Some item) = behind (item_bytes item) (item_sound item) (item_len item) (go (item_len item - 1))
 
 -- what stands behind a string's opening quotes, where the first bytes, so many, are passed over
-unfoldable pub body_from : Form → List ℕ → ℕ → Option Body
+unfoldable pub body_from : StringForm → List ℕ → ℕ → Option Body
 body_from form [] k = None
 body_from form (b ∷ z) (suc k) = body_from form z k
 body_from form (b ∷ z) zero =
     if closes form (b ∷ z) then Some (record { value = []; sound = true; len = length (quotes form) })
     else with_item (body_from form z) (item_at form b z)
 
-abbrev pub body_at : Form → List ℕ → Option Body
+abbrev pub body_at : StringForm → List ℕ → Option Body
 body_at form z = body_from form z 0
 
 -- the string of this form
@@ -89,14 +89,14 @@ abbrev pub string_of : ℕ → Option Body → Option (Lexeme × ℕ)
 string_of n None = None
 string_of n (Some body) = Some (string_lexeme body.sound body.value, n + body.len)
 
-abbrev pub form_at : Form → List ℕ → Option (Lexeme × ℕ)
+abbrev pub form_at : StringForm → List ℕ → Option (Lexeme × ℕ)
 form_at form z = string_of (length (quotes form)) (body_at form (drop (length (quotes form)) z))
 
 abbrev pub or_else : Option (Lexeme × ℕ) → Option (Lexeme × ℕ) → Option (Lexeme × ℕ)
 or_else None other = other
 or_else (Some found) other = Some found
 
-abbrev pub long_at : Form → List ℕ → Option (Lexeme × ℕ)
+abbrev pub long_at : StringForm → List ℕ → Option (Lexeme × ℕ)
 long_at form z = if closes form z then form_at form z else None
 
 -- the string at a quote, the long form first

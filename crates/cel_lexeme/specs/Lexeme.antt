@@ -3,13 +3,13 @@ use Rattle.std.specs.Prelude.{◌≡◌, ◌≤◌, ◌<◌, ◌+◌, ◌*◌, �
 use Rattle.std.specs.Char.{digit_value, is_digit, encode_utf8}
 use lib.Utf8.{scalar}
 use Rattle.std.specs.List.{list_all}
-use Rattle.cel_token.specs.declared.sign.Sign.{Sign}
-use Rattle.cel_token.specs.declared.sign.Sign.TheVariants.{In}
-use Rattle.cel_token.specs.declared.token.Kind.TheVariants as kind
-use Rattle.cel_token.specs.Spelling.{spelling, is_word, is_reserved}
+use Rattle.cel_tree.specs.declared.token.Sign.{Sign}
+use Rattle.cel_tree.specs.declared.token.Sign.TheVariants.{In}
+use Rattle.cel_tree.specs.declared.token.TokenKind.TheVariants as kind
+use Rattle.cel_tree.specs.Spelling.{spelling, is_word, is_reserved}
 use Rattle.cel_lexeme.specs.declared.lexeme.Lexeme.{Lexeme}
 use Rattle.cel_lexeme.specs.declared.lexeme.Lexeme.TheVariants.{Token, Reserved, Bad}
-use Rattle.cel_lexeme.specs.declared.strings.Form.{Form}
+use Rattle.cel_lexeme.specs.declared.strings.StringForm.{StringForm}
 
 -- what a word stands for
 abbrev pub word_lexeme : List ℕ → Lexeme
@@ -38,16 +38,16 @@ abbrev pub is_raw_mark : ℕ → Bool
 is_raw_mark b = b == 114 || b == 82
 
 -- the quotes before and behind a string
-abbrev pub quotes : Form → List ℕ
+abbrev pub quotes : StringForm → List ℕ
 quotes form = if form.long then form.quote ∷ form.quote ∷ form.quote ∷ [] else form.quote ∷ []
 
 -- the quotes that end the string stand at the front
-abbrev pub closes : Form → List ℕ → Bool
+abbrev pub closes : StringForm → List ℕ → Bool
 closes form z =
     slice_index z 0 == form.quote && (not form.long || (slice_index z 1 == form.quote && slice_index z 2 == form.quote))
 
 -- bytes that stand for themselves: a backslash only in a raw string, a line feed and a carriage return only in a long one
-abbrev pub may_stand : Form → ℕ → Bool
+abbrev pub may_stand : StringForm → ℕ → Bool
 may_stand form b = (form.raw || not (b == 92)) && (form.long || not (b == 10 || b == 13))
 
 -- what a backslash with one more character stands for: \a \b \f \n \r \t \v \\ \? \" \' and a backslash with a backquote
@@ -74,11 +74,11 @@ utf8 code = if scalar code then encode_utf8 code else []
 
 -- these bytes are what stands behind a string's opening quotes, up to and with its closing quotes: the value, decoded, and whether
 -- each numeric escape is a Unicode scalar value
-pub data Body : Form → Bool → List ℕ → List ℕ → Type 0 where
-  close : {form : Form} → Body form true [] (quotes form)
-  plain : {form : Form} {sound : Bool} {b : ℕ} {value z : List ℕ} → closes form (b ∷ z) ≡ false → may_stand form b ≡ true
+pub data Body : StringForm → Bool → List ℕ → List ℕ → Type 0 where
+  close : {form : StringForm} → Body form true [] (quotes form)
+  plain : {form : StringForm} {sound : Bool} {b : ℕ} {value z : List ℕ} → closes form (b ∷ z) ≡ false → may_stand form b ≡ true
       → Body form sound value z → Body form sound (b ∷ value) (b ∷ z)
-  escape : {form : Form} {sound : Bool} {code : ℕ} {bytes value z : List ℕ} → form.raw ≡ false → Escape code bytes
+  escape : {form : StringForm} {sound : Bool} {code : ℕ} {bytes value z : List ℕ} → form.raw ≡ false → Escape code bytes
       → Body form sound value z → Body form (scalar code && sound) (utf8 code ++ value) (bytes ++ z)
 
 -- a string with an escape that is no Unicode scalar value is a bad token
@@ -91,9 +91,9 @@ pub data Spells : Lexeme → List ℕ → Type 0 where
   word : {w : List ℕ} → is_word w ≡ true → Spells (word_lexeme w) w
   decimal_number : {d : ℕ} {ds : List ℕ} → all_digits 10 (d ∷ ds) ≡ true → Spells (number_lexeme (number 10 (d ∷ ds))) (d ∷ ds)
   hexadecimal_number : {d : ℕ} {ds : List ℕ} → all_digits 16 (d ∷ ds) ≡ true → Spells (number_lexeme (number 16 (d ∷ ds))) (48 ∷ 120 ∷ d ∷ ds)
-  string : {form : Form} {sound : Bool} {value z : List ℕ} → is_quote form.quote ≡ true → form.raw ≡ false → Body form sound value z
+  string : {form : StringForm} {sound : Bool} {value z : List ℕ} → is_quote form.quote ≡ true → form.raw ≡ false → Body form sound value z
       → Spells (string_lexeme sound value) (quotes form ++ z)
-  raw_string : {r : ℕ} {form : Form} {sound : Bool} {value z : List ℕ} → is_raw_mark r ≡ true → is_quote form.quote ≡ true → form.raw ≡ true
+  raw_string : {r : ℕ} {form : StringForm} {sound : Bool} {value z : List ℕ} → is_raw_mark r ≡ true → is_quote form.quote ≡ true → form.raw ≡ true
       → Body form sound value z → Spells (string_lexeme sound value) (r ∷ (quotes form ++ z))
 
 -- the first len bytes spell the lexeme, and nothing that stands at the front is longer

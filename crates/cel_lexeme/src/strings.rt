@@ -6,27 +6,27 @@ ghost use lib.Utf8.{scalar};
 use crate::Lexeme;
 use crate::bytes::{byte, text};
 use crate::escapes::escape_at;
-use cel_token::Kind;
+use cel_tree::TokenKind;
 use iam_text::{List, OutOfMemory};
 use std::alloc::Global;
 
 /// How a string is written: between single or tripled quotes, raw or with escapes.
-#[derive(Clone, Copy, Debug, PartialEq, Eq)]
-pub struct Form {
+#[derive(Clone, Copy)]
+pub struct StringForm {
     pub quote: u8,
     pub long: bool,
     pub raw: bool,
 }
 
 /// One item of a string: a byte that stands for itself, or an escape, so many bytes behind its backslash.
-#[derive(Clone, Copy, Debug, PartialEq, Eq)]
+#[derive(Clone, Copy)]
 pub enum Item {
     Byte(u8),
     Code(u64, usize),
 }
 
 /// What stands behind a string's opening quotes, decoded, and how many bytes it takes with its closing quotes.
-#[derive(Debug, Drop)]
+#[derive(Drop)]
 pub struct Body {
     pub value: List<u8>,
     /// Each numeric escape is a Unicode scalar value.
@@ -34,14 +34,14 @@ pub struct Body {
     pub len: usize,
 }
 
-fn quotes_len(form: Form) -> usize
+fn quotes_len(form: StringForm) -> usize
     ensures value { result ≡ length (spec.quotes form) }
     ensures within { (0 < result) × (result ≤ 3) }
 {
     if form.long { 3 } else { 1 }
 }
 
-fn closes(form: Form, z: &[u8]) -> bool
+fn closes(form: StringForm, z: &[u8]) -> bool
     ensures value { result ≡ spec.closes form z.now }
     ensures within { 0 < form.quote → result ≡ true → length (spec.quotes form) ≤ length z.now }
 {
@@ -52,7 +52,7 @@ fn closes(form: Form, z: &[u8]) -> bool
     short && byte(z, 1) == form.quote && byte(z, 2) == form.quote
 }
 
-fn may_stand(form: Form, b: u8) -> bool
+fn may_stand(form: StringForm, b: u8) -> bool
     ensures { result ≡ spec.may_stand form b }
 {
     (form.raw || b != b'\\') && (form.long || !(b == b'\n' || b == b'\r'))
@@ -69,7 +69,7 @@ fn item_len(item: Item) -> usize
     }
 }
 
-fn item_at(form: Form, b: u8, z: &[u8]) -> Option<Item>
+fn item_at(form: StringForm, b: u8, z: &[u8]) -> Option<Item>
     ensures value { result ≡ front.item_at form b z.now }
     ensures within { IfSome result (λ item. front.item_len item ≤ length z.now + 1) }
 {
@@ -113,7 +113,7 @@ fn append_code(value: &mut List<u8>, code: u64) -> Result<bool, OutOfMemory>
     Ok(true)
 }
 
-fn body_at(alloc: Global, form: Form, z: &[u8]) -> Result<Option<Body>, OutOfMemory>
+fn body_at(alloc: Global, form: StringForm, z: &[u8]) -> Result<Option<Body>, OutOfMemory>
     requires quote { 0 < form.quote }
     ensures value { IfOk result (λ found. found ≡ front.body_at form z.now) }
     ensures within { IfOk result (λ found. IfSome found (λ body. body.len ≤ length z.now)) }
@@ -140,14 +140,18 @@ fn string_lexeme(alloc: Global, body: &Body) -> Result<Lexeme, OutOfMemory>
     ensures { IfOk result (λ lexeme. lexeme ≡ spec.string_lexeme body.now.sound body.now.value) }
 {
     if body.sound {
-        Ok(Lexeme::Token(Kind::Str(text(alloc, body.value.as_slice())?)))
+        Ok(Lexeme::Token(TokenKind::Str(text(alloc, body.value.as_slice())?)))
     } else {
         Ok(Lexeme::Bad)
     }
 }
 
 /// The string of one form at its opening quotes.
-fn form_at(alloc: Global, form: Form, z: &[u8]) -> Result<Option<(Lexeme, usize)>, OutOfMemory>
+fn form_at(
+    alloc: Global,
+    form: StringForm,
+    z: &[u8],
+) -> Result<Option<(Lexeme, usize)>, OutOfMemory>
     requires quote { spec.is_quote form.quote ≡ true }
     requires opened { length (spec.quotes form) ≤ length z.now }
     requires utf8 { IsUtf8 (drop (length (spec.quotes form)) z.now) }
@@ -171,7 +175,7 @@ pub fn string_at(alloc: Global, raw: bool, z: &[u8]) -> Result<Option<(Lexeme, u
     ensures within { IfOk result (λ found. IfSome found (λ string. string.1 ≤ length z.now)) }
 {
     let quote = byte(z, 0);
-    let long = Form {
+    let long = StringForm {
         quote,
         long: true,
         raw,
@@ -181,7 +185,7 @@ pub fn string_at(alloc: Global, raw: bool, z: &[u8]) -> Result<Option<(Lexeme, u
             return Ok(Some(found));
         }
     }
-    let short = Form {
+    let short = StringForm {
         quote,
         long: false,
         raw,

@@ -1,11 +1,11 @@
 ghost use Rattle.std.specs.Prelude.{◌≡◌, ◌<◌, ◌≤◌, length, IfOk, IsUtf8, slice_index, true};
-ghost use Rattle.cel_token.specs.Spelling.{is_letter, is_reserved};
+ghost use Rattle.cel_tree.specs.Spelling.{is_letter, is_reserved};
 ghost use Rattle.cel_lexeme.specs.Lexeme.{word_lexeme};
 ghost use Rattle.cel_lexeme.specs.Front.{word_at};
 
 use crate::Lexeme;
 use crate::bytes::{text, word_len};
-use cel_token::{Kind, Sign};
+use cel_tree::{Sign, TokenKind};
 use iam_text::OutOfMemory;
 use std::alloc::Global;
 
@@ -38,15 +38,15 @@ fn word_lexeme(alloc: Global, word: &[u8]) -> Result<Lexeme, OutOfMemory>
     ensures { IfOk result (λ lexeme. lexeme ≡ word_lexeme word.now) }
 {
     if word == b"in".as_slice() {
-        Ok(Lexeme::Token(Kind::Sign(Sign::In)))
+        Ok(Lexeme::Token(TokenKind::Sign(Sign::In)))
     } else if word == b"true".as_slice() {
-        Ok(Lexeme::Token(Kind::Truth(true)))
+        Ok(Lexeme::Token(TokenKind::Truth(true)))
     } else if word == b"false".as_slice() {
-        Ok(Lexeme::Token(Kind::Truth(false)))
+        Ok(Lexeme::Token(TokenKind::Truth(false)))
     } else if is_reserved(word) {
         Ok(Lexeme::Reserved)
     } else {
-        Ok(Lexeme::Token(Kind::Name(text(alloc, word)?)))
+        Ok(Lexeme::Token(TokenKind::Name(text(alloc, word)?)))
     }
 }
 

@@ -1,15 +1,17 @@
 -- The cut of a text into tokens, in the words of the language's definition.
 use Rattle.std.specs.Prelude.{◌≡◌, ◌<◌, ◌-◌, ◌^◌, ℕ, Bool, true, false, ◌&&◌, ◌||◌, ◌==◌, nat_le, nat_lt, List, [], ◌∷◌, length, drop, slice_index, Result, Ok, Err}
-use Rattle.cel_token.specs.declared.sign.Sign.TheVariants as sign
-use Rattle.cel_token.specs.declared.token.Kind.{Kind}
-use Rattle.cel_token.specs.declared.token.Kind.TheVariants as kind
-use Rattle.cel_token.specs.declared.token.Token.{Token}
+use Rattle.cel_tree.specs.declared.token.Sign.TheVariants as sign
+use Rattle.cel_tree.specs.declared.token.TokenKind.{TokenKind}
+use Rattle.cel_tree.specs.declared.token.TokenKind.TheVariants as kind
+use Rattle.cel_tree.specs.declared.token.Token.{Token}
 use Rattle.cel_lexeme.specs.declared.lexeme.Lexeme.TheVariants as lexeme
 use Rattle.cel_lexeme.specs.Lexeme.{IsLongest, HasNone}
 use Rattle.cel_lexer.specs.declared.seen.Seen.{Seen}
 use Rattle.cel_lexer.specs.declared.seen.Seen.TheVariants.{Opening, UnaryMinus, Operand}
+use Rattle.cel_lexer.specs.declared.stop.CutFault.{CutFault}
+use Rattle.cel_lexer.specs.declared.stop.CutFault.TheVariants.{BadToken, ReservedWord}
 use Rattle.cel_lexer.specs.declared.stop.Stop.{Stop}
-use Rattle.cel_lexer.specs.declared.stop.Stop.TheVariants.{BadToken, ReservedWord, OutOfMemory}
+use Rattle.cel_lexer.specs.declared.stop.Stop.TheVariants.{Fault, OutOfMemory}
 
 -- space, tab, line feed, form feed, carriage return
 abbrev pub is_blank : ℕ → Bool
@@ -37,7 +39,7 @@ after_minus Operand = Opening
 after_minus Opening = UnaryMinus
 after_minus UnaryMinus = UnaryMinus
 
-abbrev pub after : Seen → Kind → Seen
+abbrev pub after : Seen → TokenKind → Seen
 after seen (kind.Sign sign.Minus) = after_minus seen
 after seen (kind.Sign sign.CloseParenthesis) = Operand
 after seen (kind.Sign sign.CloseBracket) = Operand
@@ -53,7 +55,7 @@ is_within UnaryMinus n = nat_le n (2 ^ 63)
 is_within Opening n = nat_lt n (2 ^ 63)
 is_within Operand n = nat_lt n (2 ^ 63)
 
-abbrev pub may_stand : Seen → Kind → Bool
+abbrev pub may_stand : Seen → TokenKind → Bool
 may_stand seen (kind.Number n) = is_within seen n
 may_stand seen (kind.Sign s) = true
 may_stand seen (kind.Truth b) = true
@@ -61,23 +63,23 @@ may_stand seen (kind.Str text) = true
 may_stand seen (kind.Name name) = true
 
 -- in a text of n bytes, the token of the first len bytes of its end `here`
-abbrev pub token_at : ℕ → List ℕ → ℕ → Kind → Token
+abbrev pub token_at : ℕ → List ℕ → ℕ → TokenKind → Token
 token_at n here len k = record { span = record { from = n - length here; to = n - length (drop len here) }; kind = k }
 
-abbrev pub with_token : Token → Result (List Token) Stop → Result (List Token) Stop
+abbrev pub with_token : Token → Result (List Token) CutFault → Result (List Token) CutFault
 with_token t (Ok ts) = Ok (t ∷ ts)
-with_token t (Err stop) = Err stop
+with_token t (Err fault) = Err fault
 
 -- the end z of a text of n bytes, before which `seen` stands, is cut into these tokens, or has this fault as its first
-pub data Cut : ℕ → Seen → List ℕ → Result (List Token) Stop → Type 0 where
+pub data Cut : ℕ → Seen → List ℕ → Result (List Token) CutFault → Type 0 where
   -- the end
   ended : {n : ℕ} {seen : Seen} {z : List ℕ} → Past false z [] → Cut n seen z (Ok [])
   -- the longest token, and then the rest
-  token : {n len : ℕ} {seen : Seen} {z here : List ℕ} {k : Kind} {more : Result (List Token) Stop} → Past false z here
+  token : {n len : ℕ} {seen : Seen} {z here : List ℕ} {k : TokenKind} {more : Result (List Token) CutFault} → Past false z here
       → IsLongest here (lexeme.Token k) len → may_stand seen k ≡ true → Cut n (after seen k) (drop len here) more
       → Cut n seen z (with_token (token_at n here len k) more)
   -- a number that is too large there
-  large : {n len : ℕ} {seen : Seen} {z here : List ℕ} {k : Kind} → Past false z here
+  large : {n len : ℕ} {seen : Seen} {z here : List ℕ} {k : TokenKind} → Past false z here
       → IsLongest here (lexeme.Token k) len → may_stand seen k ≡ false → Cut n seen z (Err (BadToken (n - length here)))
   -- a reserved word
   reserved : {n len : ℕ} {seen : Seen} {z here : List ℕ} → Past false z here → IsLongest here lexeme.Reserved len
@@ -89,16 +91,18 @@ pub data Cut : ℕ → Seen → List ℕ → Result (List Token) Stop → Type 0
   none : {n : ℕ} {seen : Seen} {z here : List ℕ} → Past false z here → 0 < length here → HasNone here
       → Cut n seen z (Err (BadToken (n - length here)))
 
+-- the text is cut into these tokens, or has this fault as its first
+abbrev pub CutInto : List ℕ → Result (List Token) CutFault → Type 0
+CutInto text cut = Cut (length text) Opening text cut
+
 -- the answer is the cut of the text; want of memory is free
 abbrev pub Cuts : List ℕ → Result (List Token) Stop → Type 0
-Cuts text (Ok tokens) = Cut (length text) Opening text (Ok tokens)
-Cuts text (Err (BadToken at)) = Cut (length text) Opening text (Err (BadToken at))
-Cuts text (Err (ReservedWord at)) = Cut (length text) Opening text (Err (ReservedWord at))
+Cuts text (Ok tokens) = CutInto text (Ok tokens)
+Cuts text (Err (Fault fault)) = CutInto text (Err fault)
 Cuts text (Err OutOfMemory) = Unit {0}
 
 -- a token stands at the front, or a fault is there
-abbrev pub Reads : Seen → List ℕ → ℕ → Result (Kind × ℕ) Stop → Type 0
+abbrev pub Reads : Seen → List ℕ → ℕ → Result (TokenKind × ℕ) Stop → Type 0
 Reads seen here from (Ok t) = IsLongest here (lexeme.Token t.0) t.1 × (may_stand seen t.0 ≡ true)
-Reads seen here from (Err (BadToken at)) = (n : ℕ) (z : List ℕ) → n - length here ≡ from → Past false z here → Cut n seen z (Err (BadToken at))
-Reads seen here from (Err (ReservedWord at)) = (n : ℕ) (z : List ℕ) → n - length here ≡ from → Past false z here → Cut n seen z (Err (ReservedWord at))
+Reads seen here from (Err (Fault fault)) = (n : ℕ) (z : List ℕ) → n - length here ≡ from → Past false z here → Cut n seen z (Err fault)
 Reads seen here from (Err OutOfMemory) = Unit {0}

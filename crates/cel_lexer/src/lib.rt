@@ -1,7 +1,8 @@
 //! Cuts the text of a condition expression into tokens.
 //!
 //! `tokens` gives the cut into longest tokens, with blanks and comments passed over, or the first fault: a bad token or a reserved
-//! word, at its offset. `Cut` says what a cut is, rule by rule, and `one_cut` that a text has one at most.
+//! word, at its offset. `Cut` says what a cut is, rule by rule, `cut_of`
+//! computes it (`cut_is_computed`), and a text has one at most (`one_cut`).
 #![tactic(auto)]
 
 mod blanks;
@@ -9,6 +10,6 @@ mod cutting;
 mod seen;
 mod stop;
 
-pub use cutting::{one_cut, tokens};
+pub use cutting::{cut_is_computed, one_cut, tokens};
 pub use seen::Seen;
-pub use stop::Stop;
+pub use stop::{CutFault, Stop};

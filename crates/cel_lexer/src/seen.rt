@@ -1,10 +1,10 @@
 ghost use Rattle.std.specs.Prelude.{◌≡◌};
 ghost use Rattle.cel_lexer.specs.Cut as spec;
 
-use cel_token::{Kind, Sign};
+use cel_tree::{Sign, TokenKind};
 
 /// What stands before a place in a text. It decides what a `-` is there, and whether 2^63 may stand there.
-#[derive(Clone, Copy, Debug, PartialEq, Eq)]
+#[derive(Clone, Copy)]
 pub enum Seen {
     /// The start, or a token behind which an operand begins: a `-` here is unary.
     Opening,
@@ -17,14 +17,14 @@ pub enum Seen {
 const LARGEST: u64 = 1 << 63;
 
 /// What stands before the place behind one more token.
-pub fn after(seen: Seen, kind: &Kind) -> Seen
+pub fn after(seen: Seen, kind: &TokenKind) -> Seen
     ensures { result ≡ spec.after seen kind.now }
 {
     match kind {
-        Kind::Sign(Sign::Minus) => after_minus(seen),
-        Kind::Sign(Sign::CloseParenthesis) => Seen::Operand,
-        Kind::Sign(Sign::CloseBracket) => Seen::Operand,
-        Kind::Sign(_) => Seen::Opening,
+        TokenKind::Sign(Sign::Minus) => after_minus(seen),
+        TokenKind::Sign(Sign::CloseParenthesis) => Seen::Operand,
+        TokenKind::Sign(Sign::CloseBracket) => Seen::Operand,
+        TokenKind::Sign(_) => Seen::Opening,
         _ => Seen::Operand,
     }
 }
@@ -39,11 +39,11 @@ fn after_minus(seen: Seen) -> Seen
 }
 
 /// Whether the token may stand here: all may, but 2^63 only directly behind a unary `-`.
-pub fn may_stand(seen: Seen, kind: &Kind) -> bool
+pub fn may_stand(seen: Seen, kind: &TokenKind) -> bool
     ensures { result ≡ spec.may_stand seen kind.now }
 {
     match kind {
-        Kind::Number(n) => is_within(seen, *n),
+        TokenKind::Number(n) => is_within(seen, *n),
         _ => true,
     }
 }

@@ -1,12 +1,18 @@
 ghost use Rattle.std.specs.Prelude.{◌≡◌};
 ghost use Rattle.cel_lexer.specs.declared.stop.Stop.TheVariants as variant;
 
-/// Why a text has no tokens. A fault is the first one, at its offset in bytes.
-#[derive(Clone, Copy, Debug, PartialEq, Eq)]
-pub enum Stop {
+/// The first fault of a text that is not cut into tokens, at its offset in bytes.
+#[derive(Clone, Copy, Debug)]
+pub enum CutFault {
     BadToken(u32),
     /// A reserved word, or `null`.
     ReservedWord(u32),
+}
+
+/// Why no tokens are given.
+#[derive(Clone, Copy, Debug)]
+pub enum Stop {
+    Fault(CutFault),
     OutOfMemory,
 }
 

@@ -1,9 +1,9 @@
 -- A line's bytes, and the answers to texts and lines.
-use Rattle.std.proofs.Common.{◌≡◌, ℕ, ◌-◌, ◌<◌, ◌≤◌, List, [], ◌∷◌, ◌++◌, length, get_or, take, drop, Option, Result, IfOk, sym, subst, ◌∙◌, append_assoc, append-nil, arith}
+use Rattle.std.proofs.Common.{◌≡◌, ℕ, ◌-◌, ◌<◌, ◌≤◌, List, [], ◌∷◌, ◌++◌, length, get_or, take, drop, Result, IfOk, sym, subst, ◌∙◌, append_assoc, append-nil, arith}
 use Rattle.std.proofs.lemmas.List.{take_rest}
 use Rattle.std.proofs.lemmas.Result.{IfOk-weaker}
 use Rattle.std.specs.Str.{IsUtf8}
-use Rattle.cel_types.specs.declared.kind.Place.{Place}
+use Rattle.cel_lines.specs.declared.task.Task.{Task}
 use Rattle.cel_lines.specs.Answers as answers
 use Rattle.cel_lines.specs.Answers.{Answer, LineAnswer}
 use Rattle.cel_lines.specs.Escapes.{front, StandsFor}
@@ -44,14 +44,14 @@ pub said : {X E : Type 0} (r : Result X E) (bytes : X → List ℕ) (line wanted
 said r bytes line wanted P h e p = IfOk-weaker r _ _ (λ x k. subst P (sym (k ∙ e)) p) h
 
 -- the answer to the text that a line stands for
-pub line_said : {X E : Type 0} (r : Result X E) (bytes : X → List ℕ) (place : Option Place) (given line held text : List ℕ) → StandsFor given held
-    → given ≡ line → text ≡ held → IsUtf8 text → IfOk r (λ x. Answer place text (bytes x)) → IfOk r (λ x. LineAnswer place line (bytes x))
-line_said r bytes place given line held text s g e u h =
+pub line_said : {X E : Type 0} (r : Result X E) (bytes : X → List ℕ) (task : Task) (given line held text : List ℕ) → StandsFor given held
+    → given ≡ line → text ≡ held → IsUtf8 text → IfOk r (λ x. Answer task text (bytes x)) → IfOk r (λ x. LineAnswer task line (bytes x))
+line_said r bytes task given line held text s g e u h =
     let stands : StandsFor line text = subst (λ (z : List ℕ). StandsFor line z) (sym e) (subst (λ (z : List ℕ). StandsFor z held) g s) in
     IfOk-weaker r _ _ (λ x k. answers.text stands u k) h
 
 -- a line that has one answer is given no other one
-pub no_other : {X E : Type 0} (r : Result X E) (bytes : X → List ℕ) (place : Option Place) (line : List ℕ)
-    → ((place : Option Place) (line answer other : List ℕ) → LineAnswer place line answer → LineAnswer place line other → answer ≡ other)
-    → IfOk r (λ x. LineAnswer place line (bytes x)) → IfOk r (λ x. (other : List ℕ) → LineAnswer place line other → bytes x ≡ other)
-no_other r bytes place line one h = IfOk-weaker r _ _ (λ x k other d. one place line (bytes x) other k d) h
+pub no_other : {X E : Type 0} (r : Result X E) (bytes : X → List ℕ) (task : Task) (line : List ℕ)
+    → ((task : Task) (line answer other : List ℕ) → LineAnswer task line answer → LineAnswer task line other → answer ≡ other)
+    → IfOk r (λ x. LineAnswer task line (bytes x)) → IfOk r (λ x. (other : List ℕ) → LineAnswer task line other → bytes x ≡ other)
+no_other r bytes task line one h = IfOk-weaker r _ _ (λ x k other d. one task line (bytes x) other k d) h

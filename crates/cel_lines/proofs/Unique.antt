@@ -1,15 +1,15 @@
 -- A line has one answer.
-use Rattle.std.proofs.Common.{◌≡◌, ℕ, List, ◌∷◌, Option, codes, refl, sym, ap, subst}
+use Rattle.std.proofs.Common.{◌≡◌, ℕ, List, ◌∷◌, codes, refl, sym, ap, subst}
 use Rattle.std.specs.Str.{IsUtf8}
 use Rattle.std.specs.Str.Lossy.{utf8_valid_len}
 use Rattle.cel_tree.specs.declared.tree.Expr.{Expr}
 use Rattle.cel_syntax.specs.declared.fault.SyntaxFault.{SyntaxFault}
 use Rattle.cel_syntax.specs.CelText.{CelText, Faults}
 use Rattle.cel_types.specs.declared.checking.TypeFault.{TypeFault}
-use Rattle.cel_types.specs.declared.kind.Place.{Place}
 use Rattle.cel_types.specs.HasKind.{IsFaultOf, HasKind}
 use Rattle.cel_types.specs.Laws.{AtMostOneFault, ConditionsHaveNoFault}
 use Rattle.cel_types.specs.Table.{truth}
+use Rattle.cel_lines.specs.declared.task.Task.{Task}
 use Rattle.cel_lines.specs.Answers as spec
 use Rattle.cel_lines.specs.Answers.{Answer, LineAnswer, tree_line, fault_line}
 use Rattle.cel_lines.specs.Escapes as stands
@@ -29,7 +29,7 @@ one_meaning stands.end other stands.end = refl
 one_meaning (stands.more {first = first} {rest = rest} h) other (stands.more {bytes = bytes} k) =
     ap (λ (z : List ℕ). (front first rest).0 ∷ z) (one_meaning h bytes k)
 
-one_answer : Laws → {place : Option Place} {text answer : List ℕ} → Answer place text answer → (other : List ℕ) → Answer place text other → answer ≡ other
+one_answer : Laws → {task : Task} {text answer : List ℕ} → Answer task text answer → (other : List ℕ) → Answer task text other → answer ≡ other
 one_answer laws (spec.tree {text = t} {e = e} c) other (spec.tree {e = e'} d) = ap tree_line (laws.one_tree t e e' c d)
 one_answer laws (spec.tree {text = t} {e = e} c) other (spec.fault {fault = f} d) = absurd (laws.not_both t e f c d)
 one_answer laws (spec.condition {text = t} {e = e} c h) other (spec.condition {e = e'} d k) = ap tree_line (laws.one_tree t e e' c d)
@@ -48,8 +48,8 @@ one_answer laws (spec.fault {text = t} {fault = f} c) other (spec.type_fault {e 
 one_answer laws (spec.fault {text = t} {fault = f} c) other (spec.fault {fault = g} d) =
     ap (λ (z : SyntaxFault). fault_line (name_of z.kind) z.offset) (laws.one_fault t f g c d)
 
-pub one_line_answer : Laws → {place : Option Place} {line answer : List ℕ} → LineAnswer place line answer → (other : List ℕ) → LineAnswer place line other → answer ≡ other
-one_line_answer laws (spec.text {place = p} {bytes = z} s u h) other (spec.text {bytes = y} s' u' k) =
+pub one_line_answer : Laws → {task : Task} {line answer : List ℕ} → LineAnswer task line answer → (other : List ℕ) → LineAnswer task line other → answer ≡ other
+one_line_answer laws (spec.text {task = p} {bytes = z} s u h) other (spec.text {bytes = y} s' u' k) =
     one_answer laws h other (subst (λ (x : List ℕ). Answer p x other) (sym (one_meaning s y s')) k)
 one_line_answer laws (spec.text s u h) other (spec.no_text {bytes = y} s' n) = absurd (n (subst IsUtf8 (one_meaning s y s') u))
 one_line_answer laws (spec.no_text s n) other (spec.text {bytes = y} s' u k) = absurd (n (subst IsUtf8 (sym (one_meaning s y s')) u))

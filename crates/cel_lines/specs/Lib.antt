@@ -1,3 +1,4 @@
-pub mod Names
 pub mod Escapes
+pub mod Names
+pub mod Task
 pub mod Answers

@@ -1,10 +1,12 @@
-ghost use Rattle.std.specs.Prelude.{◌≡◌, ℕ, List, Some, Err, IfOk, string_bytes};
+ghost use Rattle.std.specs.Prelude.{◌≡◌, ℕ, List, Err, IfOk, string_bytes};
 ghost use Rattle.cel_syntax.specs.CelText.{CelText, Answers};
 ghost use Rattle.cel_lines.specs.Names.{name_of, type_name_of};
-ghost use Rattle.cel_lines.specs.Answers.{place_of, tree_line, fault_line, Answer, LineAnswer};
+ghost use Rattle.cel_lines.specs.declared.task.Task.TheVariants.{Check};
+ghost use Rattle.cel_lines.specs.Answers.{tree_line, fault_line, Answer, LineAnswer};
 
 use crate::escapes::unescaped;
 use crate::laws::one_answer_a_line;
+use crate::task::Task;
 use cel_syntax::{Expr, ReadStop, SyntaxKind, print, read};
 use cel_types::{Place, TypeKind, check};
 use iam_text::OutOfMemory;
@@ -56,8 +58,8 @@ fn fault_line(alloc: Global, name: &str, offset: usize) -> Result<String, OutOfM
     Ok(line)
 }
 
-fn stop_line(alloc: Global, place: Option<Place>, stop: ReadStop) -> Result<String, OutOfMemory>
-    ensures { (text : List ℕ) → Answers text (Err stop) → IfOk result (λ line. Answer place text (string_bytes line)) }
+fn stop_line(alloc: Global, task: Task, stop: ReadStop) -> Result<String, OutOfMemory>
+    ensures { (text : List ℕ) → Answers text (Err stop) → IfOk result (λ line. Answer task text (string_bytes line)) }
 {
     match stop {
         ReadStop::Syntax(fault) => fault_line(alloc, name(fault.kind), fault.offset as usize),
@@ -67,7 +69,7 @@ fn stop_line(alloc: Global, place: Option<Place>, stop: ReadStop) -> Result<Stri
 
 // The line of a tree that is to be a condition in a place.
 fn condition_line(alloc: Global, place: Place, tree: Expr) -> Result<String, OutOfMemory>
-    ensures { (text : List ℕ) → CelText text tree → IfOk result (λ line. Answer (Some place) text (string_bytes line)) }
+    ensures { (text : List ℕ) → CelText text tree → IfOk result (λ line. Answer (Check place) text (string_bytes line)) }
 {
     match check(tree, place) {
         Ok(typed) => tree_line(alloc, typed.expr()),
@@ -75,42 +77,30 @@ fn condition_line(alloc: Global, place: Place, tree: Expr) -> Result<String, Out
     }
 }
 
-/// The answer to a text, which is to be a condition where a place is given: `OK ` and its tree, printed, or its fault.
-pub fn text_answer(alloc: Global, place: Option<Place>, text: &str) -> Result<String, OutOfMemory>
-    ensures { IfOk result (λ line. Answer place text.now (string_bytes line)) }
+/// The answer to a text, of which this is asked: `OK ` and its tree, printed, or its fault.
+pub fn text_answer(alloc: Global, task: Task, text: &str) -> Result<String, OutOfMemory>
+    ensures { IfOk result (λ line. Answer task text.now (string_bytes line)) }
 {
     let tree = match read(alloc, text) {
         Ok(tree) => tree,
-        Err(stop) => return stop_line(alloc, place, stop),
+        Err(stop) => return stop_line(alloc, task, stop),
     };
-    match place {
-        None => tree_line(alloc, &tree),
-        Some(place) => condition_line(alloc, place, tree),
+    match task {
+        Task::Read => tree_line(alloc, &tree),
+        Task::Check(place) => condition_line(alloc, place, tree),
     }
 }
 
-/// The place that a word of the command line names.
-pub fn place_of(word: &str) -> Option<Place>
-    ensures { result ≡ place_of word.now }
-{
-    match word {
-        "allow" => Some(Place::Allow),
-        "deny" => Some(Place::Deny),
-        "binding" => Some(Place::Binding),
-        _ => None,
-    }
-}
-
-/// The answer to a line, which is to be a condition where a place is given.
-pub fn line_answer(alloc: Global, place: Option<Place>, line: &str) -> Result<String, OutOfMemory>
-    ensures answer { IfOk result (λ answer. LineAnswer place line.now (string_bytes answer)) }
+/// The answer to a line, of whose text this is asked.
+pub fn line_answer(alloc: Global, task: Task, line: &str) -> Result<String, OutOfMemory>
+    ensures answer { IfOk result (λ answer. LineAnswer task line.now (string_bytes answer)) }
     // There is no other answer.
-    ensures only { IfOk result (λ answer. (other : List ℕ) → LineAnswer place line.now other → string_bytes answer ≡ other) }
+    ensures only { IfOk result (λ answer. (other : List ℕ) → LineAnswer task line.now other → string_bytes answer ≡ other) }
 {
     one_answer_a_line();
     let bytes = unescaped(alloc, line.as_bytes())?;
     match String::from_utf8(bytes) {
-        Ok(text) => text_answer(alloc, place, text.as_str()),
+        Ok(text) => text_answer(alloc, task, text.as_str()),
         Err(error) => fault_line(alloc, "NOT_UTF8", error.utf8_error().valid_up_to()),
     }
 }

@@ -4,37 +4,52 @@
 //! itself. A line whose bytes are no UTF-8 is no text, and its answer is `NOT_UTF8` with the offset of the first bad byte.
 //!
 //! With one of the words `allow`, `deny` and `binding` a line that reads is also checked in that place, and its fault is written.
+//! Other words are refused: nothing is read then, and the status is 2.
 #![tactic(auto)]
 
 mod answer;
 mod escapes;
 mod laws;
-#[cfg(test)]
-mod tests;
+mod task;
 
-use cel_types::Place;
-use iam_text::OutOfMemory;
-use std::alloc::AllocError;
+use iam_text::{List, OutOfMemory, Text};
+use std::alloc::{AllocError, Global};
+use std::process::ExitCode;
 use std::rt::Env;
 use std::{env, io};
+use task::Task;
 
-// The place that the first word of the command line names, if it names one.
-fn place(rt: &(impl Env + AllocGlobal)) -> io::Result<Option<Place>> {
-    let mut words = env::args(rt)?;
-    let _program = words.next();
-    Ok(match words.next() {
-        Some(word) => answer::place_of(word.as_str()),
-        None => None,
-    })
+const WRONG_WORDS: u8 = 2;
+
+fn refused(_: OutOfMemory) -> io::Error {
+    AllocError.into()
 }
 
-fn main(rt: HostRuntime) -> io::Result<()> {
-    let place = place(&rt)?;
+// The words of the command line behind the program's name.
+fn words(rt: &(impl Env + AllocGlobal)) -> io::Result<List<Text>> {
+    let alloc: Global = rt.alloc();
+    let mut words = List::new(alloc);
+    for word in env::args(rt)?.skip(1) {
+        let word = Text::of(alloc, word.as_str()).map_err(refused)?;
+        words.push(word).map_err(refused)?;
+    }
+    Ok(words)
+}
+
+fn answer_lines(rt: &HostRuntime, task: Task) -> io::Result<()> {
     for line in rt.lines(rt.alloc()) {
-        match answer::line_answer(rt.alloc(), place, line?.as_str()) {
-            Ok(answer) => println!(rt; "{answer}")?,
-            Err(OutOfMemory) => return Err(AllocError.into()),
-        }
+        let answer = answer::line_answer(rt.alloc(), task, line?.as_str()).map_err(refused)?;
+        println!(rt; "{answer}")?;
     }
     Ok(())
+}
+
+fn main(rt: HostRuntime) -> io::Result<ExitCode> {
+    let words = words(&rt)?;
+    let Some(task) = task::task_of(words.as_slice()) else {
+        eprintln!(rt; "cel_lines: the words are none, or one of allow, deny and binding")?;
+        return Ok(ExitCode::from(WRONG_WORDS));
+    };
+    answer_lines(&rt, task)?;
+    Ok(ExitCode::SUCCESS)
 }

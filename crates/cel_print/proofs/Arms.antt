@@ -4,9 +4,9 @@ use Rattle.cel_tree.specs.declared.tree.Span.{Span}
 use Rattle.cel_tree.specs.declared.tree.Op.{Op}
 use Rattle.cel_tree.specs.declared.tree.Expr.{Expr}
 use Rattle.cel_tree.specs.declared.tree.Expr.TheVariants as tree
-use Rattle.cel_token.specs.declared.sign.Sign.{Sign}
-use Rattle.cel_token.specs.declared.sign.Sign.TheVariants as sign
-use Rattle.cel_token.specs.Spelling.{spelling}
+use Rattle.cel_tree.specs.declared.token.Sign.{Sign}
+use Rattle.cel_tree.specs.declared.token.Sign.TheVariants as sign
+use Rattle.cel_tree.specs.Spelling.{spelling}
 use Rattle.cel_grammar.specs.declared.level.Level.{Level}
 use Rattle.cel_grammar.specs.declared.level.Level.TheVariants.{Or}
 use Rattle.cel_grammar.specs.declared.level.Sort.{Sort}

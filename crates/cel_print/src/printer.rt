@@ -1,10 +1,10 @@
 ghost use Rattle.std.specs.Prelude.{◌≡◌, [], ◌∷◌, ◌++◌, OnOk};
 ghost use Rattle.std.specs.Fmt.{signed_decimal};
 ghost use Rattle.std.specs.Char.{encode_utf8};
-ghost use Rattle.cel_token.specs.Spelling.{spelling};
+ghost use Rattle.cel_tree.specs.Spelling.{spelling};
 ghost use Rattle.cel_shown.specs.Spelled.{escaped};
 
-use cel_token::Sign;
+use cel_tree::Sign;
 use iam_text::{OutOfMemory, Text};
 use std::alloc::Global;
 use std::marker::Model;

@@ -6,8 +6,7 @@ ghost use Rattle.cel_shown.specs.Shown as spec;
 ghost use Rattle.cel_print.specs.Own.{own};
 
 use cel_grammar::{Level, Sort};
-use cel_token::Sign;
-use cel_tree::{Expr, Op};
+use cel_tree::{Expr, Op, Sign};
 
 pub fn level_of(op: Op) -> Level
     ensures { result ≡ spec.level_of op }

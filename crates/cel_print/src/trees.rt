@@ -1,6 +1,6 @@
 ghost use Rattle.std.specs.Prelude.{◌≡◌, ◌∷◌, ◌++◌, IfOk, OnOk, map, false};
-ghost use Rattle.cel_token.specs.declared.sign.Sign.TheVariants.{OpenParenthesis, CloseParenthesis};
-ghost use Rattle.cel_token.specs.declared.token.Kind.TheVariants.{Name};
+ghost use Rattle.cel_tree.specs.declared.token.Sign.TheVariants.{OpenParenthesis, CloseParenthesis};
+ghost use Rattle.cel_tree.specs.declared.token.TokenKind.TheVariants.{Name};
 ghost use Rattle.cel_grammar.specs.declared.level.Sort.TheVariants.{Whole};
 ghost use Rattle.cel_shown.specs.Shown.{Word, signed, shown, written, number, separated, closed_by, spaced};
 ghost use Rattle.cel_shown.specs.Spelled.{bytes_of};
@@ -8,8 +8,7 @@ ghost use Rattle.cel_shown.specs.Spelled.{bytes_of};
 use crate::printer::Printer;
 use crate::sort::{is_within, level_of, operand, own_sort, sign_of};
 use cel_grammar::{Level, Sort};
-use cel_token::Sign;
-use cel_tree::Expr;
+use cel_tree::{Expr, Sign};
 use iam_text::{OutOfMemory, Text};
 use std::alloc::Global;
 

@@ -6,7 +6,7 @@ use Rattle.cel_tree.specs.declared.tree.Expr.{Expr}
 use Rattle.cel_tree.specs.Tree.{unplaced}
 use Rattle.cel_grammar.specs.declared.level.Level.{Level}
 use Rattle.cel_grammar.specs.declared.level.Level.TheVariants.{Or, And, Rel, Add, Mul}
-use Rattle.cel_grammar.specs.Place.{Place, sees_number}
+use Rattle.cel_grammar.specs.Position.{Position, sees_number}
 use Rattle.cel_grammar.specs.Grammar as g
 use Rattle.cel_grammar.specs.declared.level.Sort.{Sort}
 use Rattle.cel_grammar.specs.declared.level.Sort.TheVariants.{Whole, Binary, Unary, Nots, Negs, Member, Primary}
@@ -31,7 +31,7 @@ op_is op.Mul = refl
 op_is op.Div = refl
 op_is op.Rem = refl
 
-module _ (i j : Place) (a : Expr) where
+module _ (i j : Position) (a : Expr) where
   at_level : (l : Level) → Derives Unary i j a → Derives (Binary l) i j a
   at_level Mul d = g.alone d
   at_level Add d = g.alone (g.alone d)
@@ -127,16 +127,16 @@ level_in_whole Rel = refl
 level_in_whole Add = refl
 level_in_whole Mul = refl
 
--- what stands between the places has this property, with the tree a but for spans
-pub record Owned (has : Place → Place → Expr → Type 0) (i j : Place) (a : Expr) : Type 0 where
+-- what stands between the positions has this property, with the tree a but for spans
+pub record Owned (has : Position → Position → Expr → Type 0) (i j : Position) (a : Expr) : Type 0 where
   pub tree : Expr
   pub same : unplaced tree ≡ unplaced a
   pub owned : has i j tree
 
 -- as it stands, or in brackets
-pub placed_derives : (own : Sort) (has : Place → Place → Expr → Type 0) (f : Bool → List Piece) (a : Expr) → within own Whole ≡ true
-    → ((i j : Place) (t : Expr) (s : Sort) → within own s ≡ true → has i j t → Derives s i j t)
-    → ((m : Bool) (i j : Place) → Stands (f m) i j → Owned has i j a) → (s : Sort) (m : Bool) (i j : Place) → Stands (placed own f s m) i j → DerivesAgain s i j a
+pub placed_derives : (own : Sort) (has : Position → Position → Expr → Type 0) (f : Bool → List Piece) (a : Expr) → within own Whole ≡ true
+    → ((i j : Position) (t : Expr) (s : Sort) → within own s ≡ true → has i j t → Derives s i j t)
+    → ((m : Bool) (i j : Position) → Stands (f m) i j → Owned has i j a) → (s : Sort) (m : Bool) (i j : Position) → Stands (placed own f s m) i j → DerivesAgain s i j a
 placed_derives own has f a whole fit inner s m i j t = go (within own s) refl t
   where
     go : (b : Bool) → within own s ≡ b → Stands (cond b (f m) (bracketed (f false))) i j → DerivesAgain s i j a
@@ -146,8 +146,8 @@ placed_derives own has f a whole fit inner s m i j t = go (within own s) refl t
         let w = inner false b.open_at b.close_at b.inner in
         record { tree = w.tree; same = w.same; derived = primary_fits i j w.tree s (g.group b.opens (fit b.open_at b.close_at w.tree Whole whole w.owned) b.closes) }
 
-pub placed_begins : (own : Sort) (f : Bool → List Piece) → ((i j : Place) → Stands (f true) i j → sees_number i ≡ false)
-    → (s : Sort) (i j : Place) → Stands (placed own f s true) i j → sees_number i ≡ false
+pub placed_begins : (own : Sort) (f : Bool → List Piece) → ((i j : Position) → Stands (f true) i j → sees_number i ≡ false)
+    → (s : Sort) (i j : Position) → Stands (placed own f s true) i j → sees_number i ≡ false
 placed_begins own f inner s i j t = go (within own s) t
   where
     go : (b : Bool) → Stands (cond b (f true) (bracketed (f false))) i j → sees_number i ≡ false
@@ -178,7 +178,7 @@ whole_is_loose Negs e = refl
 whole_is_loose Member e = refl
 whole_is_loose _ e = cc
 
-pub loose_begins : (own : Sort) (f : Bool → List Piece) (s : Sort) → within own s ≡ false → (i j : Place) → Stands (placed own f s true) i j → sees_number i ≡ false
+pub loose_begins : (own : Sort) (f : Bool → List Piece) (s : Sort) → within own s ≡ false → (i j : Position) → Stands (placed own f s true) i j → sees_number i ≡ false
 loose_begins own f s e i j t = go (within own s) e t
   where
     go : (b : Bool) → b ≡ false → Stands (cond b (f true) (bracketed (f false))) i j → sees_number i ≡ false

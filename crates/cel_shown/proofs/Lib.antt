@@ -7,3 +7,7 @@ pub mod Named
 pub mod Cost
 pub mod Shape
 pub mod Light
+pub mod CutFronts
+pub mod CutWords
+pub mod CutSteps
+pub mod Cutting

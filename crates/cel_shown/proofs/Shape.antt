@@ -6,27 +6,26 @@ use Rattle.cel_tree.specs.declared.tree.Expr.{Expr, roll-Expr, ind-Expr, map-Exp
 use Rattle.cel_tree.specs.declared.tree.Expr.TheOpen.{Expr-F}
 use Rattle.cel_tree.specs.declared.tree.Expr.TheVariants as tree
 use Rattle.cel_tree.specs.declared.tree.Expr.TheVariants.{rolls-Bool, rolls-Int, rolls-Str, rolls-Name, rolls-Select, rolls-Call, rolls-Method, rolls-Many, rolls-Not, rolls-Neg, rolls-Two, rolls-Pick}
-use Rattle.cel_token.specs.declared.sign.Sign.{Sign}
-use Rattle.cel_token.specs.declared.sign.Sign.TheVariants as sign
-use Rattle.cel_token.specs.declared.token.Token.{Token}
-use Rattle.cel_token.specs.declared.token.Kind.{Kind}
-use Rattle.cel_token.specs.declared.token.Kind.TheVariants as kind
+use Rattle.cel_tree.specs.declared.token.Sign.{Sign}
+use Rattle.cel_tree.specs.declared.token.Sign.TheVariants as sign
+use Rattle.cel_tree.specs.declared.token.Token.{Token}
+use Rattle.cel_tree.specs.declared.token.TokenKind.{TokenKind}
+use Rattle.cel_tree.specs.declared.token.TokenKind.TheVariants as kind
 use Rattle.cel_grammar.specs.declared.level.Level.TheVariants.{Or}
 use Rattle.cel_grammar.specs.declared.level.Sort.{Sort}
 use Rattle.cel_grammar.specs.declared.level.Sort.TheVariants.{Whole, Binary, Nots, Negs, Member}
 use Rattle.cel_grammar.specs.Grammar.{operand}
 use Rattle.cel_grammar.specs.Depth.{opened, deepest}
-use Rattle.cel_shown.specs.Shown.{Piece, Blank, Word, signed, bracketed, within, placed, number, separated, closed_by, spaced, Writing, layer_shown, shown, level_of, sign_of, tokens_of}
-use Rattle.cel_shown.specs.Shorter.{kinds_of}
+use Rattle.cel_shown.specs.Shown.{Piece, Blank, Word, signed, bracketed, within, placed, number, separated, closed_by, spaced, Writing, layer_shown, shown, level_of, sign_of, tokens_of, kinds_of}
 use Rattle.cel_shown.proofs.Layers.{fold_bool, fold_int, fold_str, fold_name, fold_select, fold_call, fold_method, fold_many, fold_not, fold_neg, fold_two, fold_pick}
 use Rattle.cel_shown.proofs.Cost.{Cost, beside, plus, in_brackets, flat, Costing, placed_cost, number_cost, separated_cost, layer_cost, cost}
 
 -- the most brackets that are open at once, where n are open already
-abbrev pub deep : ℕ → List Kind → ℕ
+abbrev pub deep : ℕ → List TokenKind → ℕ
 deep n [] = n
 deep n (k ∷ ks) = max n (deep (opened n k) ks)
 
-at_least : (n : ℕ) (ks : List Kind) → n ≤ deep n ks
+at_least : (n : ℕ) (ks : List TokenKind) → n ≤ deep n ks
 at_least n [] = omega arith
 at_least n (k ∷ ks) = omega arith
 
@@ -51,10 +50,10 @@ blank_shape : (ps : List Piece) (c : Cost) → Shape ps c → Shape (Blank ∷ p
 blank_shape ps c s = record { tokens = s.tokens; height = s.height }
 
 -- a token that is no bracket
-record NoBracket (k : Kind) : Type 0 where
+record NoBracket (k : TokenKind) : Type 0 where
   level : (n : ℕ) → opened n k ≡ n
 
-word_shape : (k : Kind) (ps : List Piece) (c : Cost) → NoBracket k → Shape ps c → Shape (Word k ∷ ps) (plus 1 c)
+word_shape : (k : TokenKind) (ps : List Piece) (c : Cost) → NoBracket k → Shape ps c → Shape (Word k ∷ ps) (plus 1 c)
 word_shape k ps c l s = record {
   tokens = λ rest. let e = s.tokens rest in omega (arith, e);
   height = λ n rest.
@@ -63,7 +62,7 @@ word_shape k ps c l s = record {
       omega (arith, e, a);
 }
 
-one_shape : (k : Kind) → NoBracket k → Shape (Word k ∷ []) (flat 1)
+one_shape : (k : TokenKind) → NoBracket k → Shape (Word k ∷ []) (flat 1)
 one_shape k l = word_shape k [] (flat 0) l empty_shape
 
 round_shape : (ps : List Piece) (c : Cost) → Shape ps c → Shape (bracketed ps) (in_brackets c)
@@ -220,7 +219,7 @@ shaped = ind-Expr Shaped (λ x y is. shape_step y x is)
 
 -- what is written by itself, as tokens
 
-deepest_kinds : (n : ℕ) (ts : List Token) (ks : List Kind) → kinds_of ts ≡ ks → deepest n ts ≡ deep n ks
+deepest_kinds : (n : ℕ) (ts : List Token) (ks : List TokenKind) → kinds_of ts ≡ ks → deepest n ts ≡ deep n ks
 deepest_kinds n [] [] e = refl
 deepest_kinds n [] (k ∷ ks) e = cc
 deepest_kinds n (t ∷ ts) [] e = cc
@@ -229,7 +228,7 @@ deepest_kinds n (t ∷ ts) (k ∷ ks) e =
     let tail : kinds_of ts ≡ ks = cc in
     ap (λ z. max n (deepest (opened n z) ts)) head ∙ ap (λ m. max n m) (deepest_kinds (opened n k) ts ks tail)
 
-length_kinds : (ts : List Token) (ks : List Kind) → kinds_of ts ≡ ks → length ts ≡ length ks
+length_kinds : (ts : List Token) (ks : List TokenKind) → kinds_of ts ≡ ks → length ts ≡ length ks
 length_kinds [] [] e = refl
 length_kinds [] (k ∷ ks) e = cc
 length_kinds (t ∷ ts) [] e = cc

@@ -3,3 +3,4 @@ pub mod Spelled
 pub mod Separate
 pub mod Readable
 pub mod Shorter
+pub mod CutAgain

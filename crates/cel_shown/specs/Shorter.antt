@@ -1,11 +1,7 @@
 -- What is written needs no more tokens and no more brackets than what it was read from.
-use Rattle.std.specs.Prelude.{◌≤◌, List, map, length}
-use Rattle.cel_token.specs.declared.token.Token.{Token}
-use Rattle.cel_token.specs.declared.token.Kind.{Kind}
+use Rattle.std.specs.Prelude.{◌≤◌, List, length}
+use Rattle.cel_tree.specs.declared.token.Token.{Token}
 use Rattle.cel_grammar.specs.Depth.{deepest}
-
-abbrev pub kinds_of : List Token → List Kind
-kinds_of tokens = map (λ t. t.kind) tokens
 
 pub record NoLarger (tokens others : List Token) : Type 0 where
   pub shorter : length tokens ≤ length others

@@ -1,16 +1,17 @@
 -- How a tree is written: the tokens, and the blanks between them.
-use Rattle.std.specs.Prelude.{ℕ, zero, suc, ℤ, pos, negsuc, Bool, true, false, if◌then◌else◌, nat_le, List, [], ◌∷◌, ◌++◌}
+use Rattle.std.specs.Prelude.{ℕ, zero, suc, ℤ, pos, negsuc, Bool, true, false, if◌then◌else◌, nat_le, List, [], ◌∷◌, ◌++◌, map}
 use Rattle.cel_tree.specs.declared.tree.Op.{Op}
 use Rattle.cel_tree.specs.declared.tree.Op.TheVariants as op
 use Rattle.cel_tree.specs.declared.tree.Expr.{Expr, fold-Expr}
 use Rattle.cel_tree.specs.declared.tree.Expr.TheOpen.{Expr-F}
-use Rattle.cel_token.specs.declared.sign.Sign.{Sign}
-use Rattle.cel_token.specs.declared.sign.Sign.TheVariants as sign
-use Rattle.cel_token.specs.declared.token.Kind.{Kind}
-use Rattle.cel_token.specs.declared.token.Kind.TheVariants as kind
+use Rattle.cel_tree.specs.declared.token.Sign.{Sign}
+use Rattle.cel_tree.specs.declared.token.Sign.TheVariants as sign
+use Rattle.cel_tree.specs.declared.token.Token.{Token}
+use Rattle.cel_tree.specs.declared.token.TokenKind.{TokenKind}
+use Rattle.cel_tree.specs.declared.token.TokenKind.TheVariants as kind
 use Rattle.cel_grammar.specs.declared.level.Level.{Level}
 use Rattle.cel_grammar.specs.declared.level.Level.TheVariants.{Or, And, Rel, Add, Mul}
-use Rattle.cel_grammar.specs.Place.{Place, Takes}
+use Rattle.cel_grammar.specs.Position.{Position, Takes}
 use Rattle.cel_grammar.specs.declared.level.Sort.{Sort}
 use Rattle.cel_grammar.specs.declared.level.Sort.TheVariants.{Whole, Binary, Unary, Nots, Negs, Member, Primary}
 use Rattle.cel_grammar.specs.Grammar.{operand}
@@ -18,7 +19,7 @@ use Rattle.cel_grammar.specs.Grammar.{operand}
 -- one blank, or one token
 pub data Piece : Type 0 where
   Blank : Piece
-  Word : Kind → Piece
+  Word : TokenKind → Piece
 
 abbrev pub signed : Sign → Piece
 signed x = Word (kind.Sign x)
@@ -142,13 +143,17 @@ abbrev pub written : Expr → List Piece
 written a = shown a Whole false
 
 -- the tokens among the pieces
-abbrev pub tokens_of : List Piece → List Kind
+abbrev pub tokens_of : List Piece → List TokenKind
 tokens_of [] = []
 tokens_of (Blank ∷ ps) = tokens_of ps
 tokens_of (Word k ∷ ps) = k ∷ tokens_of ps
 
--- these tokens stand between the places
-pub data Stands : List Piece → Place → Place → Type 0 where
-  none : {i : Place} → Stands [] i i
-  blank : {ps : List Piece} {i j : Place} → Stands ps i j → Stands (Blank ∷ ps) i j
-  word : {k : Kind} {ps : List Piece} {i j m : Place} → Takes k i j → Stands ps j m → Stands (Word k ∷ ps) i m
+-- the kinds of tokens, in order
+abbrev pub kinds_of : List Token → List TokenKind
+kinds_of tokens = map (λ (token : Token). token.kind) tokens
+
+-- these tokens stand between the positions
+pub data Stands : List Piece → Position → Position → Type 0 where
+  none : {i : Position} → Stands [] i i
+  blank : {ps : List Piece} {i j : Position} → Stands ps i j → Stands (Blank ∷ ps) i j
+  word : {k : TokenKind} {ps : List Piece} {i j m : Position} → Takes k i j → Stands ps j m → Stands (Word k ∷ ps) i m

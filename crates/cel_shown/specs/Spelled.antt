@@ -1,9 +1,9 @@
 -- The bytes of pieces.
 use Rattle.std.specs.Prelude.{ℕ, true, false, if◌then◌else◌, ◌==◌, List, [], ◌∷◌, ◌++◌, codes}
 use Rattle.std.specs.Fmt.{decimal}
-use Rattle.cel_token.specs.Spelling.{spelling}
-use Rattle.cel_token.specs.declared.token.Kind.{Kind}
-use Rattle.cel_token.specs.declared.token.Kind.TheVariants as kind
+use Rattle.cel_tree.specs.Spelling.{spelling}
+use Rattle.cel_tree.specs.declared.token.TokenKind.{TokenKind}
+use Rattle.cel_tree.specs.declared.token.TokenKind.TheVariants as kind
 use Rattle.cel_shown.specs.Shown.{Piece, Blank, Word}
 
 -- a byte between double quotes: `"`, `\`, line feed, carriage return and tab are escaped
@@ -17,7 +17,7 @@ abbrev pub escaped : List ℕ → List ℕ
 escaped [] = []
 escaped (c ∷ text) = escaped_byte c ++ escaped text
 
-abbrev pub spelled : Kind → List ℕ
+abbrev pub spelled : TokenKind → List ℕ
 spelled (kind.Sign x) = spelling x
 spelled (kind.Truth true) = codes "true"
 spelled (kind.Truth false) = codes "false"

@@ -1,4 +1,5 @@
 pub mod Whole
-pub mod One
+pub mod Computed
+pub mod Answering
 pub mod Names
 pub mod Again

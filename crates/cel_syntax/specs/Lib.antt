@@ -1,3 +1,4 @@
-pub mod Stops
 pub mod CelText
+pub mod Stops
+pub mod TreeOf
 pub mod Back

@@ -1,7 +1,9 @@
 ghost use Rattle.std.specs.Prelude.{◌≡◌};
 
+use cel_lexer::CutFault;
+
 /// What is wrong with a text, in the order in which it is looked for.
-#[derive(Clone, Copy, Debug, PartialEq, Eq)]
+#[derive(Clone, Copy, Debug)]
 pub enum SyntaxKind {
     /// More than 2,048 bytes.
     TooLong,
@@ -18,14 +20,14 @@ pub enum SyntaxKind {
 }
 
 /// A fault of a text, at an offset in bytes. It is 0 where the fault is the whole text's.
-#[derive(Clone, Copy, Debug, PartialEq, Eq)]
+#[derive(Clone, Copy, Debug)]
 pub struct SyntaxFault {
     pub offset: u32,
     pub kind: SyntaxKind,
 }
 
 /// Why no tree is given.
-#[derive(Clone, Copy, Debug, PartialEq, Eq)]
+#[derive(Clone, Copy, Debug)]
 pub enum ReadStop {
     Syntax(SyntaxFault),
     OutOfMemory,
@@ -39,8 +41,12 @@ impl From<cel_lexer::Stop> for ReadStop {
 
     fn from(stop: cel_lexer::Stop) -> ReadStop {
         match stop {
-            cel_lexer::Stop::BadToken(offset) => fault(offset, SyntaxKind::BadToken),
-            cel_lexer::Stop::ReservedWord(offset) => fault(offset, SyntaxKind::ReservedWord),
+            cel_lexer::Stop::Fault(CutFault::BadToken(offset)) => {
+                fault(offset, SyntaxKind::BadToken)
+            }
+            cel_lexer::Stop::Fault(CutFault::ReservedWord(offset)) => {
+                fault(offset, SyntaxKind::ReservedWord)
+            }
             cel_lexer::Stop::OutOfMemory => ReadStop::OutOfMemory,
         }
     }

@@ -1,7 +1,7 @@
 ghost use Rattle.std.specs.Prelude.{◌≡◌, ◌<◌, ◌^◌, length};
 ghost use Rattle.cel_grammar.specs.Depth as spec;
 
-use cel_token::{Kind, Sign, Token};
+use cel_tree::{Sign, Token, TokenKind};
 
 /// The most bytes of a text.
 pub const MAX_BYTES: usize = 2048;
@@ -12,13 +12,13 @@ pub const MAX_TOKENS: usize = 512;
 /// The most brackets that are open at once.
 pub const MAX_DEPTH: usize = 24;
 
-fn opened(count: usize, kind: &Kind) -> usize
+fn opened(count: usize, kind: &TokenKind) -> usize
     requires { count < 2 ^ 33 }
     ensures { result ≡ spec.opened count kind.now }
 {
     match kind {
-        Kind::Sign(Sign::OpenParenthesis | Sign::OpenBracket) => count + 1,
-        Kind::Sign(Sign::CloseParenthesis | Sign::CloseBracket) => count.saturating_sub(1),
+        TokenKind::Sign(Sign::OpenParenthesis | Sign::OpenBracket) => count + 1,
+        TokenKind::Sign(Sign::CloseParenthesis | Sign::CloseBracket) => count.saturating_sub(1),
         _ => count,
     }
 }

@@ -26,7 +26,7 @@ pub fn printed_reads_back()
 {
     cel_shown::derived_is_readable();
     cel_shown::written_is_separate();
-    cel_print_bytes::printed_is_cut();
+    cel_shown::separate_is_cut();
     cel_shown::written_is_no_larger();
     cel_shown::written_is_derived();
 }

@@ -1,7 +1,8 @@
-ghost use Rattle.std.specs.Prelude.{◌≡◌, ℕ, List};
+ghost use Rattle.std.specs.Prelude.{◌≡◌, ◌↔◌, ℕ, List, Ok, Err};
 ghost use Rattle.cel_tree.specs.declared.tree.Expr.{Expr};
 ghost use Rattle.cel_syntax.specs.declared.fault.SyntaxFault.{SyntaxFault};
 ghost use Rattle.cel_syntax.specs.CelText.{CelText, Faults, Answers, Gives};
+ghost use Rattle.cel_syntax.specs.TreeOf.{tree_of, Reads};
 
 use crate::fault::{ReadStop, SyntaxKind, fault};
 use crate::limits::{MAX_BYTES, MAX_DEPTH, MAX_TOKENS, depth};
@@ -10,11 +11,18 @@ use std::alloc::Global;
 
 /// The tree of a text, or its first fault.
 pub fn read(alloc: Global, text: &str) -> Result<Expr, ReadStop>
+    ensures exact { Reads (tree_of text.now) result }
     ensures answer { Answers text.now result }
     // A text with a tree is never refused, unless memory runs out.
     ensures complete { (a : Expr) → CelText text.now a → Gives a result }
 {
-    one_answer();
+    tree_is_computed();
+    answered(alloc, text)
+}
+
+fn answered(alloc: Global, text: &str) -> Result<Expr, ReadStop>
+    ensures { Answers text.now result }
+{
     if text.len() > MAX_BYTES {
         return Err(fault(0, SyntaxKind::TooLong));
     }
@@ -29,12 +37,20 @@ pub fn read(alloc: Global, text: &str) -> Result<Expr, ReadStop>
     Ok(tree)
 }
 
+/// `tree_of` computes the tree of each text that has one, and the first fault of each other.
+pub fn tree_is_computed()
+    ensures tree { (text : List ℕ) (a : Expr) → (tree_of text ≡ Ok a) ↔ CelText text a }
+    ensures fault { (text : List ℕ) (f : SyntaxFault) → (tree_of text ≡ Err f) ↔ Faults text f }
+{
+    cel_lexer::cut_is_computed();
+    cel_grammar::tree_is_computed();
+}
+
 /// A text has at most one tree, at most one fault, and not both.
 pub fn one_answer()
     ensures tree { (text : List ℕ) (a b : Expr) → CelText text a → CelText text b → a ≡ b }
     ensures fault { (text : List ℕ) (f g : SyntaxFault) → Faults text f → Faults text g → f ≡ g }
     ensures not_both { (text : List ℕ) (a : Expr) (f : SyntaxFault) → CelText text a → Faults text f → ⊥ }
 {
-    cel_lexer::one_cut();
-    cel_grammar::one_tree();
+    tree_is_computed();
 }

@@ -2,14 +2,14 @@ use iam_text::{List, Text};
 use sqlite_items::Boxed;
 
 /// The bytes of a text from `from` up to `to`, which is the offset behind the last one.
-#[derive(Clone, Copy, Debug, PartialEq, Eq)]
+#[derive(Clone, Copy, PartialEq, Eq)]
 pub struct Span {
     pub from: u32,
     pub to: u32,
 }
 
 /// A binary operator.
-#[derive(Clone, Copy, Debug, PartialEq, Eq)]
+#[derive(Clone, Copy, PartialEq, Eq)]
 pub enum Op {
     Or,
     And,
@@ -28,7 +28,7 @@ pub enum Op {
 }
 
 /// An expression. Each node has the span of its own derivation, without brackets round it.
-#[derive(Debug, Drop)]
+#[derive(Drop)]
 pub enum Expr {
     Bool(Span, bool),
     Int(Span, i64),

@@ -37,6 +37,7 @@ use Rattle.cel_types.specs.Forms.{form_of}
 use Rattle.cel_types.specs.HasKind as kinded
 use Rattle.cel_types.specs.HasKind.{HasKind, HaveKinds, KindFrom, AllAre, parts}
 use Rattle.cel_types.specs.Kinds.{kinds_of}
+use Rattle.cel_types.specs.Setting.{Setting}
 use Rattle.cel_types.specs.Means as rule
 use Rattle.cel_types.specs.Means.{Means, MeansAt, PartsMean, Concludes, Applies, conjunction, disjunction, first_stop, comes_to, texts_of}
 use Rattle.cel_types.specs.OfKind as of
@@ -48,7 +49,7 @@ use Rattle.cel_types.proofs.OneKind.{same_some}
 use Rattle.cel_types.proofs.TableFacts.{computed}
 
 -- the values are of the kinds, one each
-abbrev AllOf : List Value → List Kind → Type 0
+abbrev pub AllOf : List Value → List Kind → Type 0
 AllOf [] [] = Unit {0}
 AllOf (v ∷ vs) (k ∷ ks) = IsOf v k × AllOf vs ks
 AllOf _ _ = ⊥
@@ -245,7 +246,7 @@ truth_kept : {b : Bool} {k : Kind} → k ≡ truth → OutcomeIsOf (Given (value
 truth_kept {b} {k} e = moved (sym e) (of.given (is_bool b))
 
 -- values of the kinds of a row give an outcome of its kind
-applied_kept : {c : Context} {f : Form} {e : Expr-F Expr} {vs : List Value} {o : Outcome} → Applies c f e vs o
+applied_kept : {c : Setting} {f : Form} {e : Expr-F Expr} {vs : List Value} {o : Outcome} → Applies c f e vs o
     → (ks : List Kind) (k : Kind) → KindFrom f ks k → AllOf vs ks → OutcomeIsOf o k
 applied_kept (rule.bool_literal {b = b}) ks k from h = truth_kept (sym (row_kind from (no_kinds ks h) refl))
 applied_kept (rule.int_literal {n = n}) ks k from h = moved (row_kind from (no_kinds ks h) refl) (of.given (is_int_value n))
@@ -285,7 +286,7 @@ applied_kept (rule.greater_or_equal d) ks k from h = truth_kept (truth_row from 
 applied_kept (rule.member ws many d) ks k from h = truth_kept (truth_row from refl)
 applied_kept (rule.list {vs = vs}) ks k from h = of.given (list_kept vs from h)
 applied_kept {c = c} (rule.attribute {a = a}) ks k from h =
-    moved (row_kind from (no_kinds ks h) refl) (attribute_kept c a)
+    moved (row_kind from (no_kinds ks h) refl) (attribute_kept c.context a)
 applied_kept (rule.timestamp {s = s}) ks k from h =
     moved (row_kind from (one_kind _ str ks (of_str s) h) refl) (timestamp_kept (time_of_text s))
 applied_kept (rule.duration {s = s}) ks k from h =
@@ -298,15 +299,15 @@ applied_kept (rule.part {t = t} {o = o} part) ks k from h =
     moved (row_kind from (one_kind _ time ks (of_time t) h) refl) (part_kept part)
 applied_kept (rule.part_in {t = t} {z = z} {o = o} zone part) ks k from h =
     moved (row_kind from (two_kinds _ _ time str ks (of_time t) (of_str z) h) refl) (part_kept part)
-applied_kept {c = c} (rule.tag {e = e} {f = f}) ks k from h = moved (row_kind from (no_kinds ks h) refl) (tag_kept c f (texts_of (arguments_of e)))
+applied_kept {c = c} (rule.tag {e = e} {f = f}) ks k from h = moved (row_kind from (no_kinds ks h) refl) (tag_kept c.context f (texts_of (arguments_of e)))
 applied_kept (rule.modified) ks k from h = moved (row_kind from (no_kinds ks h) refl) (of.given (modified_kept _))
 applied_kept (rule.has_only vs ws many more d) ks k from h = truth_kept (has_only_row from)
 
-abbrev ResultIsOf : Result (List Value) EvalFault → List Kind → Type 0
+abbrev pub ResultIsOf : Result (List Value) EvalFault → List Kind → Type 0
 ResultIsOf (Ok vs) ks = AllOf vs ks
 ResultIsOf (Err fault) ks = Unit {0}
 
-concluded_kept : {c : Context} {f : Form} {e : Expr-F Expr} {r : Result (List Value) EvalFault} {o : Outcome} → Concludes c f e r o
+concluded_kept : {c : Setting} {f : Form} {e : Expr-F Expr} {r : Result (List Value) EvalFault} {o : Outcome} → Concludes c f e r o
     → (ks : List Kind) (k : Kind) → KindFrom f ks k → ResultIsOf r ks → OutcomeIsOf o k
 concluded_kept rule.stops ks k from h = of.stopped
 concluded_kept (rule.gives applied) ks k from h = applied_kept applied ks k from h
@@ -340,10 +341,10 @@ branch_kinds {place} {d} {a} {b} {ks} {k} have e = read (subst (λ z. HaveKinds 
     read (kinded.more h (kinded.more i (kinded.more j kinded.none))) = (i, j)
 
 mutual
-  pub kept : {c : Context} {e : Expr} {o : Outcome} → Means c e o → (place : Place) (k : Kind) → HasKind place e k → OutcomeIsOf o k
+  pub kept : {c : Setting} {e : Expr} {o : Outcome} → Means c e o → (place : Place) (k : Kind) → HasKind place e k → OutcomeIsOf o k
   kept (rule.node h) place k (kinded.node form fits have from) = kept_at h place _ _ k form have from
 
-  kept_at : {c : Context} {e : Expr-F Expr} {o : Outcome} → MeansAt c e o → (place : Place) (f : Form) (ks : List Kind) (k : Kind)
+  kept_at : {c : Setting} {e : Expr-F Expr} {o : Outcome} → MeansAt c e o → (place : Place) (f : Form) (ks : List Kind) (k : Kind)
       → form_of e ≡ Some f → HaveKinds place (parts e) ks → KindFrom f ks k → OutcomeIsOf o k
   kept_at (rule.false_and d) place f ks k form have from = truth_kept (truth_row (at_form form from) refl)
   kept_at (rule.and {x = x} {y = y} d i) place f ks k form have from =
@@ -359,7 +360,7 @@ mutual
   kept_at (rule.strict s form' parts' conclusion) place f ks k form have from =
       concluded_kept conclusion ks k (at_form (sym form' ∙ form) from) (kept_parts parts' place ks have)
 
-  kept_parts : {c : Context} {es : List Expr} {r : Result (List Value) EvalFault} → PartsMean c es r
+  kept_parts : {c : Setting} {es : List Expr} {r : Result (List Value) EvalFault} → PartsMean c es r
       → (place : Place) (ks : List Kind) → HaveKinds place es ks → ResultIsOf r ks
   kept_parts rule.none place ks kinded.none = tt
   kept_parts (rule.more d r) place ks (kinded.more h i) = (given_is (kept d place _ h), kept_parts r place _ i)

@@ -49,7 +49,7 @@ mutual
   no_kinds (rule.later d among) ks have = let h = first_of_more have in no_kinds among h.1.0 h.1.1
 
 mutual
-  one_first : {place : Place} {e : Expr} {fault : TypeFault} → FirstFault place e fault → (other : TypeFault) → FirstFault place e other → fault ≡ other
+  pub one_first : {place : Place} {e : Expr} {fault : TypeFault} → FirstFault place e fault → (other : TypeFault) → FirstFault place e other → fault ≡ other
   one_first (rule.inside among) other (rule.inside among') = one_among among other among'
   one_first (rule.inside among) other (rule.here have none) = absurd (no_kinds among _ have)
   one_first (rule.here have none) other (rule.inside among) = absurd (no_kinds among _ have)

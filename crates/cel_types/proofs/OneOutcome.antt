@@ -1,4 +1,4 @@
--- A tree comes to at most one outcome in a context.
+-- A tree comes to at most one outcome in a setting.
 use Rattle.std.proofs.Common.{◌≡◌, ℕ, ◌+◌, ◌-◌, ◌/◌, ◌%◌, ℤ, pos, Bool, true, false, not, cond, ◌||◌, List, ◌∷◌, Result, Ok, Err, refl, sym, ap, ◌∙◌, subst, ◌+ℤ◌, Contains}
 use Rattle.std.specs.Bool.{Decides}
 use Rattle.jiff_core.proofs.DateLemmas.{epoch_day_injective}
@@ -9,7 +9,6 @@ use Rattle.jiff_core.specs.DateTime.{civil_nanos}
 use Rattle.jiff_core.specs.declared.civil.datetime.DateTime.{DateTime}
 use Rattle.cel_tree.specs.declared.tree.Expr.{Expr}
 use Rattle.cel_tree.specs.declared.tree.Expr.TheOpen.{Expr-F}
-use Rattle.cel_value.specs.declared.context.Context.{Context}
 use Rattle.cel_value.specs.declared.value.EvalFault.{EvalFault}
 use Rattle.cel_value.specs.declared.value.Outcome.{Outcome}
 use Rattle.cel_value.specs.declared.value.Outcome.TheVariants.{Given, Stopped}
@@ -22,6 +21,7 @@ use Rattle.cel_types.specs.declared.form.TimePart.TheVariants.{FullYear, Month, 
 use Rattle.cel_types.specs.Bounds.{nanos_of_minutes}
 use Rattle.cel_types.specs.Calendar as has
 use Rattle.cel_types.specs.Calendar.{HasPart, part_of}
+use Rattle.cel_types.specs.Setting.{Setting}
 use Rattle.cel_types.specs.Means as rule
 use Rattle.cel_types.specs.Means.{Means, MeansAt, PartsMean, Concludes, Applies, conjunction, disjunction, first_stop, comes_to, value_is, AllIn}
 use Rattle.cel_types.proofs.OneKind.{same_some}
@@ -64,14 +64,14 @@ same_part p a b t h i =
     let time = time_nanos_injective a.time b.time both.1 in
     same_by_parts p a b date.0 date.1 date.2 time.0 time.1 time.2 time.3 both.0
 
-one_part : (p : TimePart) (t : ℤ) (o : Outcome) → HasPart p t o → (q : Outcome) → HasPart p t q → o ≡ q
+pub one_part : (p : TimePart) (t : ℤ) (o : Outcome) → HasPart p t o → (q : Outcome) → HasPart p t q → o ≡ q
 one_part p t o (has.within a in_range h) q (has.within b in_range' i) = ap (λ (z : ℤ). Given (value.Int z)) (same_part p a b t h i)
 one_part p t o (has.within a in_range h) q (has.outside out) = absurd (let P : ⊥ = cc (in_range, out) in P)
 one_part p t o (has.outside out) q (has.within a in_range h) = absurd (let P : ⊥ = cc (in_range, out) in P)
 one_part p t o (has.outside out) q (has.outside out') = refl
 
 -- values of parts give one outcome
-one_applies : {c : Context} {f : Form} {e : Expr-F Expr} {vs : List Value} {o : Outcome} → Applies c f e vs o
+one_applies : {c : Setting} {f : Form} {e : Expr-F Expr} {vs : List Value} {o : Outcome} → Applies c f e vs o
     → (q : Outcome) → Applies c f e vs q → o ≡ q
 one_applies rule.bool_literal q rule.bool_literal = refl
 one_applies rule.int_literal q rule.int_literal = refl
@@ -114,13 +114,13 @@ one_applies (rule.has_only vs ws many more d) q (rule.has_only {b = b} vs' ws' m
     same_truth d (subst (λ z. Decides b (AllIn z ws)) (same_items (sym many' ∙ many))
     (subst (λ z. Decides b (AllIn vs' z)) (same_items (sym more' ∙ more)) d'))
 
-one_conclusion : {c : Context} {f : Form} {e : Expr-F Expr} {r : Result (List Value) EvalFault} {o : Outcome} → Concludes c f e r o
+one_conclusion : {c : Setting} {f : Form} {e : Expr-F Expr} {r : Result (List Value) EvalFault} {o : Outcome} → Concludes c f e r o
     → (q : Outcome) → Concludes c f e r q → o ≡ q
 one_conclusion rule.stops q rule.stops = refl
 one_conclusion (rule.gives a) q (rule.gives b) = one_applies a q b
 
 -- the same results of the parts of one form
-concluded : {c : Context} {f g : Form} {e : Expr-F Expr} {r s : Result (List Value) EvalFault} {o q : Outcome} → f ≡ g → r ≡ s
+concluded : {c : Setting} {f g : Form} {e : Expr-F Expr} {r s : Result (List Value) EvalFault} {o q : Outcome} → f ≡ g → r ≡ s
     → Concludes c f e r o → Concludes c g e s q → o ≡ q
 concluded {c} {f} {g} {e} {r} {s} {o} {q} fg rs h i =
     one_conclusion h q (subst (λ z. Concludes c z e r q) (sym fg) (subst (λ z. Concludes c g e z q) (sym rs) i))
@@ -164,10 +164,10 @@ one_value : {v w : Value} {vs ws : List Value} → v ≡ w → values vs ≡ val
 one_value {v} {w} {vs} {ws} e h = let same : vs ≡ ws = cc in ap (λ z. values (z ∷ vs)) e ∙ ap (λ z. values (w ∷ z)) same
 
 mutual
-  pub one_outcome : {c : Context} {e : Expr} {o : Outcome} → Means c e o → (q : Outcome) → Means c e q → o ≡ q
+  pub one_outcome : {c : Setting} {e : Expr} {o : Outcome} → Means c e o → (q : Outcome) → Means c e q → o ≡ q
   one_outcome (rule.node h) q (rule.node i) = one_at h q i
 
-  one_at : {c : Context} {e : Expr-F Expr} {o : Outcome} → MeansAt c e o → (q : Outcome) → MeansAt c e q → o ≡ q
+  one_at : {c : Setting} {e : Expr-F Expr} {o : Outcome} → MeansAt c e o → (q : Outcome) → MeansAt c e q → o ≡ q
   one_at (rule.false_and d) q (rule.false_and d') = refl
   one_at (rule.false_and d) q (rule.and {x = x} {y = y} d' f') = sym (false_first x y (one_outcome d _ d'))
   one_at (rule.false_and d) q (rule.strict s form parts conclusion) = lazy s
@@ -202,7 +202,7 @@ mutual
   one_at (rule.strict s form parts conclusion) q (rule.strict s' form' parts' conclusion') =
       concluded (same_some (sym form ∙ form')) (one_result parts _ parts') conclusion conclusion'
 
-  one_result : {c : Context} {es : List Expr} {r : Result (List Value) EvalFault} → PartsMean c es r
+  one_result : {c : Setting} {es : List Expr} {r : Result (List Value) EvalFault} → PartsMean c es r
       → (q : Result (List Value) EvalFault) → PartsMean c es q → r ≡ q
   one_result rule.none q rule.none = refl
   one_result (rule.more d r) q (rule.more d' r') = one_value (same_given (one_outcome d _ d')) (one_result r _ r')

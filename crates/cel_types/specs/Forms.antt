@@ -110,7 +110,7 @@ own_method name arguments =
     else option_map form.PartIn (time_part name)))))
     else None)
 
-abbrev tagged : Option TagFunction → ℕ → Option Form → Option Form
+abbrev pub tagged : Option TagFunction → ℕ → Option Form → Option Form
 tagged None arguments other = other
 tagged (Some function) arguments other = tag_form function arguments
 

@@ -1,7 +1,6 @@
 -- The laws of kinds.
-use Rattle.std.specs.Prelude.{◌≡◌, Bool}
+use Rattle.std.specs.Prelude.{◌≡◌, ◌↔◌, Bool, Ok, Err}
 use Rattle.cel_tree.specs.declared.tree.Expr.{Expr}
-use Rattle.cel_value.specs.declared.context.Context.{Context}
 use Rattle.cel_value.specs.declared.value.Outcome.{Outcome}
 use Rattle.cel_value.specs.declared.value.Outcome.TheVariants.{Given, Stopped}
 use Rattle.cel_value.specs.declared.value.Value.TheVariants as value
@@ -9,7 +8,9 @@ use Rattle.cel_types.specs.declared.checking.TypeFault.{TypeFault}
 use Rattle.cel_types.specs.declared.kind.Kind.{Kind}
 use Rattle.cel_types.specs.declared.kind.Place.{Place}
 use Rattle.cel_types.specs.HasKind.{HasKind, FirstFault, IsFaultOf}
+use Rattle.cel_types.specs.KindOf.{kind_of}
 use Rattle.cel_types.specs.Means.{Means}
+use Rattle.cel_types.specs.Setting.{Setting}
 use Rattle.cel_types.specs.OfKind.{OutcomeIsOf}
 use Rattle.cel_types.specs.Table.{truth}
 
@@ -29,13 +30,21 @@ AtMostOneFault = (place : Place) (e : Expr) (f g : TypeFault) → IsFaultOf plac
 abbrev pub ConditionsHaveNoFault : Type 0
 ConditionsHaveNoFault = (place : Place) (e : Expr) (fault : TypeFault) → HasKind place e truth → ¬ IsFaultOf place e fault
 
--- a tree comes to at most one outcome in a context
+-- the function gives exactly the kind that a tree has in a place
+abbrev pub KindsAreComputed : Type 0
+KindsAreComputed = (place : Place) (e : Expr) (k : Kind) → (kind_of place e ≡ Ok k) ↔ HasKind place e k
+
+-- and exactly its first fault
+abbrev pub FaultsAreComputed : Type 0
+FaultsAreComputed = (place : Place) (e : Expr) (fault : TypeFault) → (kind_of place e ≡ Err fault) ↔ FirstFault place e fault
+
+-- a tree comes to at most one outcome in a setting
 abbrev pub AtMostOneOutcome : Type 0
-AtMostOneOutcome = (c : Context) (e : Expr) (o p : Outcome) → Means c e o → Means c e p → o ≡ p
+AtMostOneOutcome = (setting : Setting) (e : Expr) (o p : Outcome) → Means setting e o → Means setting e p → o ≡ p
 
 -- what a tree of a kind comes to is a fault or a value of that kind
 abbrev pub OutcomesAreOfTheKind : Type 0
-OutcomesAreOfTheKind = (c : Context) (place : Place) (e : Expr) (k : Kind) (o : Outcome) → HasKind place e k → Means c e o → OutcomeIsOf o k
+OutcomesAreOfTheKind = (setting : Setting) (place : Place) (e : Expr) (k : Kind) (o : Outcome) → HasKind place e k → Means setting e o → OutcomeIsOf o k
 
 abbrev pub IsTruthOrFault : Outcome → Type 0
 IsTruthOrFault (Given v) = (b : Bool) × (v ≡ value.Bool b)
@@ -43,4 +52,4 @@ IsTruthOrFault (Stopped fault) = Unit {0}
 
 -- a condition comes to a truth or to a fault
 abbrev pub ConditionsComeToTruths : Type 0
-ConditionsComeToTruths = (c : Context) (place : Place) (e : Expr) (o : Outcome) → HasKind place e truth → Means c e o → IsTruthOrFault o
+ConditionsComeToTruths = (setting : Setting) (place : Place) (e : Expr) (o : Outcome) → HasKind place e truth → Means setting e o → IsTruthOrFault o

@@ -8,11 +8,13 @@ pub mod Table
 pub mod HasKind
 pub mod Nodes
 pub mod Condition
+pub mod KindOf
 pub mod Bounds
 pub mod Calendar
 pub mod TimeText
 pub mod Extract
 pub mod Tags
+pub mod Setting
 pub mod Means
 pub mod OfKind
 pub mod Laws

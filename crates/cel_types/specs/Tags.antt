@@ -1,8 +1,10 @@
 -- What tag functions and attributes give in a context.
-use Rattle.std.specs.Prelude.{ℕ, Bool, false, is_some, find, Option, Some, None, List, [], ◌∷◌, ◌++◌, codes}
+use Rattle.std.specs.Prelude.{ℕ, ◌^◌, nat_lt, nat_eq, Bool, false, ◌&&◌, if◌then◌else◌, is_some, Option, Some, None, option_and_then, List, [], ◌∷◌, ◌++◌, length, drop, codes}
 use Rattle.std.specs.Fmt.{decimal}
+use Rattle.std.specs.List.{starts_with}
 use Rattle.std.specs.Str.{bytes_eq}
-use Rattle.cel_value.specs.Keys.{key_named}
+use Rattle.std.specs.Str.Parse.{digits_value}
+use Rattle.cel_value.specs.Keys.{key_named, key_numbered}
 use Rattle.cel_value.specs.declared.context.Context.{Context}
 use Rattle.cel_value.specs.declared.context.KeyFact.{KeyFact}
 use Rattle.cel_value.specs.declared.context.ValueFact.{ValueFact}
@@ -16,15 +18,24 @@ use Rattle.cel_types.specs.declared.form.TagFunction.{TagFunction}
 use Rattle.cel_types.specs.declared.form.TagFunction.TheVariants.{MatchTag, MatchTagId, HasTagKey, HasTagKeyId}
 use Rattle.cel_types.specs.Bounds.{time_outcome, nanos_of_seconds}
 
-abbrev pub key_id : KeyFact → List ℕ
-key_id key = codes "tagKeys/" ++ decimal key.number
+abbrev canonical : List ℕ → ℕ → Option ℕ
+canonical text n = if nat_lt n (2 ^ 64) && bytes_eq (decimal n) text then Some n else None
+
+-- the number below 2^64 whose decimal the text is
+abbrev pub decimal_number : List ℕ → Option ℕ
+decimal_number text = canonical text (digits_value 10 text)
+
+-- the number of the id `tagKeys/N`
+abbrev pub key_number : List ℕ → Option ℕ
+key_number id =
+    if starts_with nat_eq id (codes "tagKeys/") then decimal_number (drop (length (codes "tagKeys/")) id) else None
 
 abbrev pub value_id : ValueFact → List ℕ
 value_id fact = codes "tagValues/" ++ decimal fact.number
 
--- the first key with the id
+-- the first key with the id, which is that of a number
 abbrev pub key_with_id : List ℕ → List KeyFact → Option KeyFact
-key_with_id id keys = find (λ key. bytes_eq (key_id key) id) keys
+key_with_id id keys = option_and_then (λ number. key_numbered number keys) (key_number id)
 
 abbrev pub has_short : List ℕ → Option ValueFact → Bool
 has_short short None = false

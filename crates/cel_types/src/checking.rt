@@ -1,6 +1,7 @@
 ghost use Rattle.std.specs.Prelude.{◌≡◌, ◌↔◌, IsOk, IfOk, IfErr, MatchResult};
 ghost use Rattle.cel_tree.specs.declared.tree.Expr.{out-Expr};
 ghost use Rattle.cel_types.specs.HasKind.{HasKind, FirstFault, FirstFaultAmong, IsFaultOf, children};
+ghost use Rattle.cel_types.specs.KindOf.{checked};
 ghost use Rattle.cel_types.specs.Nodes.{node_kind, HaveKindsFrom, AreKinds};
 ghost use Rattle.cel_types.specs.Table.{truth};
 
@@ -40,7 +41,7 @@ pub struct TypeFault {
 }
 
 /// An expression in a place where it is a condition: its kind there is Bool.
-#[derive(Debug, Drop)]
+#[derive(Drop)]
 pub struct Typed {
     expr: Expr,
     place: Place,
@@ -80,6 +81,7 @@ impl Typed {
 
 /// Whether an expression is a condition in a place. One that isn't is dropped.
 pub fn check(expr: Expr, place: Place) -> Result<Typed, TypeFault>
+    ensures value { result ≡ checked place expr }
     ensures exact { IsOk result ↔ HasKind place expr truth }
     ensures typed { IfOk result (λ t. (t.expr ≡ expr) × (t.place ≡ place)) }
     ensures fault { IfErr result (IsFaultOf place expr) }
@@ -199,50 +201,4 @@ fn kinds_from(kinds: Kinds, exprs: &[Expr], place: Place) -> Result<Kinds, TypeF
         kinds = kinds.with(kind);
     }
     Ok(kinds)
-}
-
-#[cfg(test)]
-mod tests {
-    use super::*;
-    use cel_tree::{Boxed, Span};
-    use iam_text::{List, OutOfMemory, Text};
-    use std::alloc::Global;
-    use std::test::Fail;
-
-    fn span(from: u32, to: u32) -> Span {
-        Span { from, to }
-    }
-
-    // resource.hasTagKey('1000/env')
-    fn has_tag(alloc: Global) -> Result<Expr, OutOfMemory> {
-        let mut arguments = List::new(alloc);
-        arguments.push(Expr::Str(span(19, 29), Text::of(alloc, "1000/env")?))?;
-        let base = Boxed::new(alloc, Expr::Name(span(0, 8), Text::of(alloc, "resource")?))?;
-        let name = Text::of(alloc, "hasTagKey")?;
-        Ok(Expr::Method(span(0, 30), base, name, arguments))
-    }
-
-    fn fault_of(checked: &Result<Typed, TypeFault>) -> Option<TypeFault> {
-        match checked {
-            Ok(_) => None,
-            Err(fault) => Some(*fault),
-        }
-    }
-
-    #[test]
-    fn an_integer_is_no_condition(rt: HostRuntime) -> Result<(), Fail> {
-        let found = fault_of(&check(Expr::Int(span(0, 1), 1), Place::Allow));
-        let kind = TypeKind::NotBool;
-        assert_eq!(rt; found, Some(TypeFault { offset: 0, kind }));
-        Ok(())
-    }
-
-    #[test]
-    fn a_tag_function_stands_in_a_deny_rule(rt: HostRuntime) -> Result<(), Fail> {
-        assert_eq!(rt; fault_of(&check(has_tag(rt.alloc())?, Place::Deny)), None);
-        let kind = TypeKind::NotHere;
-        let bound = fault_of(&check(has_tag(rt.alloc())?, Place::Binding));
-        assert_eq!(rt; bound, Some(TypeFault { offset: 0, kind }));
-        Ok(())
-    }
 }

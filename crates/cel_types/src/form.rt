@@ -5,7 +5,7 @@ ghost use Rattle.cel_types.specs.Forms.{form_of, is_name, attribute_of, resource
 use cel_tree::{Expr, Op};
 
 /// An attribute of the request.
-#[derive(Clone, Copy, Debug, PartialEq, Eq)]
+#[derive(Clone, Copy)]
 pub enum Attribute {
     ResourceType,
     ResourceService,
@@ -16,7 +16,7 @@ pub enum Attribute {
 }
 
 /// A function of the resource's tags.
-#[derive(Clone, Copy, Debug, PartialEq, Eq)]
+#[derive(Clone, Copy)]
 pub enum TagFunction {
     MatchTag,
     MatchTagId,
@@ -25,7 +25,7 @@ pub enum TagFunction {
 }
 
 /// A part of a time, as `getHours` gives it.
-#[derive(Clone, Copy, Debug, PartialEq, Eq)]
+#[derive(Clone, Copy)]
 pub enum TimePart {
     FullYear,
     Month,
@@ -40,7 +40,7 @@ pub enum TimePart {
 }
 
 /// The form of a node.
-#[derive(Clone, Copy, Debug, PartialEq, Eq)]
+#[derive(Clone, Copy)]
 pub enum Form {
     Bool,
     Int,

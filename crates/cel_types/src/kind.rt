@@ -2,7 +2,7 @@ ghost use Rattle.std.specs.Prelude.{◌≡◌};
 ghost use Rattle.cel_types.specs.Kinds.{with_kind, alike};
 
 /// Where a condition stands.
-#[derive(Clone, Copy, Debug, PartialEq, Eq)]
+#[derive(Clone, Copy)]
 pub enum Place {
     Allow,
     Deny,
@@ -10,7 +10,7 @@ pub enum Place {
 }
 
 /// The kind of a single value. A length is a length of time.
-#[derive(Clone, Copy, Debug, PartialEq, Eq)]
+#[derive(Clone, Copy, PartialEq, Eq)]
 pub enum Base {
     Bool,
     Int,
@@ -20,14 +20,14 @@ pub enum Base {
 }
 
 /// The kind of a value, which is a single one or a list of such.
-#[derive(Clone, Copy, Debug, PartialEq, Eq)]
+#[derive(Clone, Copy, PartialEq, Eq)]
 pub enum Kind {
     One(Base),
     Many(Base),
 }
 
 /// The kinds of a list of nodes. Of more than three it is known whether all are alike.
-#[derive(Clone, Copy, Debug, PartialEq, Eq)]
+#[derive(Clone, Copy)]
 pub enum Kinds {
     None,
     One(Kind),

@@ -1,5 +1,5 @@
 // Laws of the definitions, each the contract of a function that does nothing.
-ghost use Rattle.cel_types.specs.Laws.{AtMostOneKind, FaultsHaveNoKind, AtMostOneFault, ConditionsHaveNoFault, AtMostOneOutcome, OutcomesAreOfTheKind, ConditionsComeToTruths};
+ghost use Rattle.cel_types.specs.Laws.{AtMostOneKind, FaultsHaveNoKind, AtMostOneFault, ConditionsHaveNoFault, KindsAreComputed, FaultsAreComputed, AtMostOneOutcome, OutcomesAreOfTheKind, ConditionsComeToTruths};
 
 /// A tree has at most one kind in a place.
 pub fn at_most_one_kind()
@@ -19,6 +19,12 @@ pub fn at_most_one_fault()
 /// A condition has no fault in its place.
 pub fn conditions_have_no_fault()
     ensures { ConditionsHaveNoFault }
+{}
+
+/// `kind_of` gives exactly the kind of a tree, or else its first fault.
+pub fn kinds_are_computed()
+    ensures kind { KindsAreComputed }
+    ensures fault { FaultsAreComputed }
 {}
 
 /// A tree comes to at most one outcome in a context.

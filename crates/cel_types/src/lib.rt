@@ -20,5 +20,5 @@ pub use form::{Attribute, Form, TagFunction, TimePart, attribute_of, form_of, is
 pub use kind::{Base, Kind, Place};
 pub use laws::{
     at_most_one_fault, at_most_one_kind, at_most_one_outcome, conditions_come_to_truths,
-    conditions_have_no_fault, faults_have_no_kind, outcomes_are_of_the_kind,
+    conditions_have_no_fault, faults_have_no_kind, kinds_are_computed, outcomes_are_of_the_kind,
 };

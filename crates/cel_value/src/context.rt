@@ -1,14 +1,14 @@
 use iam_text::{List, Moment, Text};
 
 /// The tag value that a key has on the resource.
-#[derive(Clone, Debug, PartialEq, Eq, Drop)]
+#[derive(Drop)]
 pub struct ValueFact {
     pub number: u64,
     pub short: Text,
 }
 
 /// A tag key of the organisation, by its number and its name `ORG/short`.
-#[derive(Clone, Debug, PartialEq, Eq, Drop)]
+#[derive(Drop)]
 pub struct KeyFact {
     pub number: u64,
     pub name: Text,
@@ -17,7 +17,7 @@ pub struct KeyFact {
 }
 
 /// What a condition may ask of a request.
-#[derive(Clone, Debug, PartialEq, Eq, Drop)]
+#[derive(Drop)]
 pub struct Context {
     pub resource_kind: Text,
     pub resource_service: Text,

@@ -6,7 +6,7 @@ use crate::{Context, KeyFact};
 use iam_text::{Moment, Text};
 
 /// What is known of a tag key: nothing, that no value is in force, or the value in force.
-#[derive(Clone, Copy, Debug)]
+#[derive(Clone, Copy)]
 pub enum KeyAnswer<'a> {
     Unknown,
     Unbound,
@@ -119,70 +119,5 @@ impl Facts for Context {
 
     fn modified(&self) -> &[Text] {
         self.modified.as_slice()
-    }
-}
-
-#[cfg(test)]
-mod tests {
-    use super::*;
-    use crate::ValueFact;
-    use iam_text::{List, OutOfMemory};
-    use std::alloc::Global;
-    use std::test::Fail;
-
-    fn bound(alloc: Global) -> Result<KeyFact, OutOfMemory> {
-        Ok(KeyFact {
-            number: 3,
-            name: Text::of(alloc, "1000/env")?,
-            value: Some(ValueFact {
-                number: 7,
-                short: Text::of(alloc, "prod")?,
-            }),
-        })
-    }
-
-    fn unbound(alloc: Global) -> Result<KeyFact, OutOfMemory> {
-        Ok(KeyFact {
-            number: 4,
-            name: Text::of(alloc, "1000/env")?,
-            value: None,
-        })
-    }
-
-    fn context(alloc: Global) -> Result<Context, OutOfMemory> {
-        let mut keys = List::new(alloc);
-        keys.push(bound(alloc)?)?;
-        keys.push(unbound(alloc)?)?;
-        Ok(Context {
-            resource_kind: Text::of(alloc, "kind")?,
-            resource_service: Text::of(alloc, "service")?,
-            resource_name: Text::of(alloc, "projects/1")?,
-            moment: Moment(1_767_225_600),
-            keys,
-            principal_kind: Text::of(alloc, "")?,
-            principal_subject: Text::of(alloc, "ada@example.com")?,
-            modified: List::new(alloc),
-        })
-    }
-
-    fn shown(answer: KeyAnswer<'_>) -> (u64, &str) {
-        match answer {
-            KeyAnswer::Unknown => (0, "unknown"),
-            KeyAnswer::Unbound => (0, "unbound"),
-            KeyAnswer::Bound { number, short } => (number, short),
-        }
-    }
-
-    #[test]
-    fn the_first_key_answers(rt: HostRuntime) -> Result<(), Fail> {
-        let context = context(rt.alloc())?;
-        let named = shown(context.key_named("1000/env"));
-        assert_eq!(rt; named.0, 7);
-        assert_eq!(rt; named.1, "prod");
-        assert_eq!(rt; shown(context.key_numbered(4)).1, "unbound");
-        assert_eq!(rt; shown(context.key_numbered(7)).1, "unknown");
-        assert_eq!(rt; shown(context.key_named("1000/en")).1, "unknown");
-        assert_eq!(rt; context.resource_name(), "projects/1");
-        Ok(())
     }
 }

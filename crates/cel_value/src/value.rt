@@ -1,7 +1,7 @@
 use iam_text::{List, Text};
 
 /// A value. A time is in nanoseconds since 1970-01-01T00:00:00Z, a length of time in nanoseconds.
-#[derive(Debug, Drop)]
+#[derive(Drop)]
 pub enum Value {
     Bool(bool),
     Int(i64),
@@ -28,7 +28,7 @@ pub enum EvalFault {
 }
 
 /// What an expression comes to in a context.
-#[derive(Debug, Drop)]
+#[derive(Drop)]
 pub enum Outcome {
     Given(Value),
     Stopped(EvalFault),

@@ -1,6 +1,6 @@
 use Rattle.std.proofs.Common.{rules, arith, ◌≡◌}
 use Rattle.std.proofs.lemmas.Grind.{common_steps}
-use Rattle.cel_grammar.specs.Place.{from}
+use Rattle.cel_grammar.specs.Position.{from}
 use Rattle.cel_grammar.specs.Reader as spec
 use Rattle.cel_grammar.specs.Reader.{whole_at, whole_of, picked, args_from, row_from, chain_from, member_from, negs, nots}
 use Rattle.cel_grammar.proofs.Turns.{one_more, deeper}

@@ -1,5 +1,5 @@
 use Rattle.std.proofs.Common.{◌≡◌, ℕ, ◌+◌, ◌-◌, ◌*◌, ◌^◌}
-use Rattle.cel_grammar.specs.Place.{from}
+use Rattle.cel_grammar.specs.Position.{from}
 use Rattle.cel_grammar.specs.Grammar.{Binary}
 use Rattle.cel_grammar.specs.Reader as spec
 use Rattle.cel_grammar.proofs.Rank.{sort_rank}

@@ -1,6 +1,6 @@
 use Rattle.std.proofs.Common.{◌≡◌, ◌+◌, ◌-◌, ◌≤◌, length, drop}
 use Rattle.std.specs.List.{prefix_len}
-use Rattle.cel_token.specs.Spelling.{is_word_byte}
+use Rattle.cel_tree.specs.Spelling.{is_word_byte}
 use Rattle.cel_lexeme.proofs.bytes.word_len.Given as goal
 
 abbrev pub invariant-loop-n : goal.invariant-loop-n

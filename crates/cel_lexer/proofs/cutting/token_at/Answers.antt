@@ -3,7 +3,7 @@ use Rattle.cel_lexeme.specs.declared.lexeme.Lexeme.{Lexeme}
 use Rattle.cel_lexeme.specs.Lexeme.{IsLongest}
 use Rattle.cel_lexer.specs.Cut as spec
 use Rattle.cel_lexer.specs.Cut.{Cut}
-use Rattle.cel_lexer.specs.declared.stop.Stop.TheVariants.{BadToken, ReservedWord}
+use Rattle.cel_lexer.specs.declared.stop.CutFault.TheVariants.{BadToken, ReservedWord}
 use Rattle.cel_lexer.proofs.cutting.token_at.Goals as goal
 
 pub returns-in_default : goal.returns-in_default

@@ -2,10 +2,10 @@ use Rattle.std.proofs.Common.{◌≡◌, arith, length, length-drop}
 use Rattle.std.proofs.lemmas.List.{take_rest}
 use Rattle.std.proofs.lemmas.List.Elements.{All-push}
 use Rattle.std.proofs.lemmas.Grind.{common_steps}
-use Rattle.cel_token.specs.Spelling.{IsProper}
+use Rattle.cel_tree.specs.Spelling.{IsProper}
 use Rattle.cel_lexeme.specs.declared.lexeme.Lexeme.TheVariants as lexeme
 use Rattle.cel_lexer.proofs.Passed.{past_utf8}
-use Rattle.cel_lexer.proofs.Turn.{past_at, past_none, finish, fault_is, turn}
+use Rattle.cel_lexer.proofs.Turn.{past_at, past_none, finish, stop_is, turn}
 use Rattle.cel_lexer.proofs.cutting.tokens.Goals as goal
 
 pub returns-then-is_empty-clause-cut : goal.returns-then-is_empty-clause-cut
@@ -19,7 +19,7 @@ token_at-requires-clause-utf8 c = past_utf8 (past_at c.cut.rest.now c.past-here.
 pub returns-in_err-kind-clause-cut : goal.returns-in_err-kind-clause-cut
 returns-in_err-kind-clause-cut c =
     let p = past_at c.cut.rest.now c.past-here.result.now c.past-here.ensures.rest in
-    fault_is c.args.text.now c.cut.found c.cut.seen c.cut.rest.now c.past-here.result.now _ c.in_err-kind.field-0.0 c.from_residual.result c.cut.invariant.so_far p
+    stop_is c.args.text.now c.cut.found c.cut.seen c.cut.rest.now c.past-here.result.now _ c.in_err-kind.field-0.0 c.from_residual.result c.cut.invariant.so_far p
     c.as_bytes-bytes.ensures.len c.in_err-kind.ensures c.from_residual.ensures.1
 
 pub cut-preserved : goal.cut-preserved

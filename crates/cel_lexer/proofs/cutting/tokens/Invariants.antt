@@ -1,7 +1,7 @@
 use Rattle.std.proofs.Common.{◌≤◌, length}
 use Rattle.std.specs.Str.{IsUtf8}
 use Rattle.std.specs.List.{All}
-use Rattle.cel_token.specs.Spelling.{IsProper}
+use Rattle.cel_tree.specs.Spelling.{IsProper}
 use Rattle.cel_lexer.proofs.Turn.{IsSoFar}
 use Rattle.cel_lexer.proofs.cutting.tokens.Given as goal
 

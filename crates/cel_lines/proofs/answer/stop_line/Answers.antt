@@ -9,5 +9,5 @@ use Rattle.cel_lines.proofs.answer.stop_line.Goals as goal
 pub returns-in-Syntax : goal.returns-in-Syntax
 returns-in-Syntax c = λ text h.
     let fault = c.in-Syntax.fault in
-    said c.fault_line.result string_bytes _ (fault_line (name_of fault.kind) fault.offset) (Answer c.args.place text) c.fault_line.ensures
+    said c.fault_line.result string_bytes _ (fault_line (name_of fault.kind) fault.offset) (Answer c.args.task text) c.fault_line.ensures
     (ap (λ name. fault_line name fault.offset) c.name.ensures) (answers.fault (subst (λ stop. Answers text (Err stop)) c.in-Syntax.is h))

@@ -4,9 +4,9 @@ use Rattle.cel_lines.specs.Answers.{Answer, tree_line}
 use Rattle.cel_lines.proofs.Lines.{said}
 use Rattle.cel_lines.proofs.answer.text_answer.Goals as goal
 
-pub returns-in-None : goal.returns-in-None
-returns-in-None c =
+pub returns-in-Read : goal.returns-in-Read
+returns-in-Read c =
     let text = c.args.text.now in
     let line = tree_line c.in-Ok.tree in
-    said c.tree_line.result string_bytes _ line (Answer c.args.place text) c.tree_line.ensures refl
-    (subst (λ place. Answer place text line) (sym c.in-None.is) (answers.tree c.in-Ok.ensures.answer))
+    said c.tree_line.result string_bytes _ line (Answer c.args.task text) c.tree_line.ensures refl
+    (subst (λ task. Answer task text line) (sym c.in-Read.is) (answers.tree c.in-Ok.ensures.answer))

@@ -2,7 +2,7 @@ use Rattle.cel_lines.proofs.Unique.{one_line_answer}
 use Rattle.cel_lines.proofs.laws.one_answer_a_line.Goals as goal
 
 pub returns : goal.returns
-returns c = λ place line answer other h k.
+returns c = λ task line answer other h k.
     one_line_answer
     (record {
       one_tree = c.one_answer.ensures.tree;

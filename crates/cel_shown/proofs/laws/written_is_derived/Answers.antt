@@ -4,4 +4,4 @@ use Rattle.cel_shown.proofs.Again.{again}
 use Rattle.cel_shown.proofs.laws.written_is_derived.Goals as goal
 
 pub returns : goal.returns
-returns c = λ is_name a h i j t. (again is_name a).at h Whole false i j t
+returns c = λ a h i j t. (again a).at h Whole false i j t

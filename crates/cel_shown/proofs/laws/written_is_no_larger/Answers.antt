@@ -1,4 +1,4 @@
-use Rattle.cel_grammar.specs.Place.{start_of}
+use Rattle.cel_grammar.specs.Position.{start_of}
 use Rattle.cel_shown.proofs.Light.{lighter}
 use Rattle.cel_shown.proofs.laws.written_is_no_larger.Goals as goal
 

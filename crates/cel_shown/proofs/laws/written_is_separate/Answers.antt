@@ -4,4 +4,4 @@ use Rattle.cel_shown.proofs.Separated.{runs}
 use Rattle.cel_shown.proofs.laws.written_is_separate.Goals as goal
 
 pub returns : goal.returns
-returns c = λ is_name a h. (runs is_name a).at h false Whole false
+returns c = λ a h. (runs a).at h false Whole false

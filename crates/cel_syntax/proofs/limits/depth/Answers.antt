@@ -1,5 +1,5 @@
 use Rattle.std.proofs.Common.{◌≡◌, ◌+◌, ◌∷◌, suc, max, drop, drop-cons, add-one, sym, ◌∙◌, ap, arith}
-use Rattle.cel_token.specs.declared.token.Token.{Token}
+use Rattle.cel_tree.specs.declared.token.Token.{Token}
 use Rattle.cel_grammar.specs.Depth.{deepest}
 use Rattle.cel_syntax.proofs.Whole.{at_least, opened_little}
 use Rattle.cel_syntax.proofs.limits.depth.Goals as goal

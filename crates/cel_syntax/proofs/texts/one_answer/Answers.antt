@@ -1,11 +1,11 @@
-use Rattle.cel_syntax.proofs.One.{same_tree, one_fault, not_both}
+use Rattle.cel_syntax.proofs.Computed.{known_of, one_tree, one_fault, not_both}
 use Rattle.cel_syntax.proofs.texts.one_answer.Goals as goal
 
 pub returns-clause-tree : goal.returns-clause-tree
-returns-clause-tree c = λ text a b. same_tree (record { one_cut = c.one_cut.ensures; one_tree = c.one_tree.ensures }) text a b
+returns-clause-tree c = one_tree (known_of c.tree_is_computed.ensures.tree c.tree_is_computed.ensures.fault)
 
 pub returns-clause-fault : goal.returns-clause-fault
-returns-clause-fault c = λ text f g. one_fault (record { one_cut = c.one_cut.ensures; one_tree = c.one_tree.ensures }) text f g
+returns-clause-fault c = one_fault (known_of c.tree_is_computed.ensures.tree c.tree_is_computed.ensures.fault)
 
 pub returns-clause-not_both : goal.returns-clause-not_both
-returns-clause-not_both c = λ text a f. not_both (record { one_cut = c.one_cut.ensures; one_tree = c.one_tree.ensures }) text a f
+returns-clause-not_both c = not_both (known_of c.tree_is_computed.ensures.tree c.tree_is_computed.ensures.fault)

@@ -1,0 +1,5 @@
+pub mod Values
+pub mod Dates
+pub mod Apply
+pub mod OutcomeOf
+pub mod Laws

@@ -1,5 +1,0 @@
-use Rattle.cel_print_bytes.proofs.Whole.{printed}
-use Rattle.cel_print_bytes.proofs.cutting.printed_is_cut.Goals as goal
-
-pub returns : goal.returns
-returns c = λ ps s. printed (λ z t e. (c.longest.ensures.found z t).0 e) ps s
