@@ -12,7 +12,7 @@ mod ordered;
 mod text;
 
 pub use list::List;
-pub use memory::OutOfMemory;
+pub use memory::{OutOfMemory, let_go};
 pub use moment::Moment;
 pub use ordered::{Ordered, put_row};
 pub use text::Text;

@@ -1,6 +1,8 @@
 // A list, seen as its elements in order.
 ghost use Rattle.std.specs.Prelude.{◌≡◌, ◌↔◌, ◌<◌, ◌≤◌, [], ◌∷◌, ◌++◌, length, insert, slice_set, OnOk, OnErr, IsTrue};
 ghost use Rattle.std.specs.List.{AllZip};
+ghost use Rattle.std.specs.List.Retain.{IsFiltered};
+ghost use Rattle.std.specs.Fn.{CalledAt};
 ghost use Rattle.std.specs.Cmp.Lexicographic.{pointwise, slice_cmp, slice_partial_cmp, lists_per, lists_equiv, lists_po, lists_total, lists_agrees, lists_ties};
 
 use crate::OutOfMemory;
@@ -75,6 +77,14 @@ impl<T: Drop> List<T> {
             Ok(()) => Ok(()),
             Err(_) => Err(OutOfMemory),
         }
+    }
+
+    /// Keeps the values that pass a test, in their order, and drops the others. Takes no memory.
+    pub fn retain<F: FnMut(&T) -> bool>(&mut self, is_kept: F)
+        requires { F.IsAlwaysCallable is_kept }
+        ensures { IsFiltered (CalledAt F.FnMut) is_kept self.old self.new }
+    {
+        self.items.retain(is_kept);
     }
 
     /// Puts a value in the place of another, which is dropped.

@@ -9,3 +9,6 @@ impl From<AllocError> for OutOfMemory {
         OutOfMemory
     }
 }
+
+/// Lets a value go. A function that drops a value of many kinds by itself is proved anew for each kind.
+pub fn let_go<T: Drop>(_value: T) {}

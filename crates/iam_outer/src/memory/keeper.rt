@@ -63,36 +63,30 @@ fn is_at(row: &Row, part: &Text, name: &Text) -> bool
     row.part == *part && row.name == *name
 }
 
-// Copies of the rows but for the one of that part and name.
-fn cut_row(alloc: Global, rows: &[Row], part: &Text, name: &Text) -> Result<List<Row>, OutOfMemory>
-    ensures { IfOk result (λ left. left ≡ cut_row part.now name.now rows.now) }
+// Takes out the row of that part and name.
+fn cut_row(rows: &mut List<Row>, part: &Text, name: &Text)
+    ensures { rows.new ≡ cut_row part.now name.now rows.old }
 {
-    let mut left = List::new(alloc);
-    for row in rows {
-        if !is_at(row, part, name) {
-            left.push(copy(row)?)?;
-        }
-    }
-    Ok(left)
+    rows.retain(|row| !is_at(row, part, name));
 }
 
-fn make(alloc: Global, rows: &mut List<Row>, write: &RowWrite) -> Result<(), OutOfMemory>
+fn make(rows: &mut List<Row>, write: &RowWrite) -> Result<(), OutOfMemory>
     ensures { OnOk result (rows.new ≡ after_write write.now rows.old) }
 {
     match write {
         RowWrite::Put(row) => put_row(rows, copy(row)?),
         RowWrite::Cut { part, name } => {
-            *rows = cut_row(alloc, rows.as_slice(), part, name)?;
+            cut_row(rows, part, name);
             Ok(())
         }
     }
 }
 
-fn make_all(alloc: Global, rows: &mut List<Row>, writes: &[RowWrite]) -> Result<(), OutOfMemory>
+fn make_all(rows: &mut List<Row>, writes: &[RowWrite]) -> Result<(), OutOfMemory>
     ensures { OnOk result (rows.new ≡ after_writes writes.now rows.old) }
 {
     for write in writes {
-        make(alloc, rows, write)?;
+        make(rows, write)?;
     }
     Ok(())
 }
@@ -141,7 +135,7 @@ impl Keeper for MemoryKeeper {
             return Err(KeeperStop::Failed);
         }
         let mut rows = placed_rows(self.alloc, self.rows.as_slice())?;
-        make_all(self.alloc, &mut rows, writes)?;
+        make_all(&mut rows, writes)?;
         self.rows = rows;
         Ok(())
     }
