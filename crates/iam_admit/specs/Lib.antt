@@ -1,3 +1,3 @@
 pub mod Facts
 pub mod Follows
-pub mod Named
+pub mod Given

@@ -1,6 +1,6 @@
 // Whether an entry is accepted.
 ghost use Rattle.std.specs.Prelude.{◌≡◌, All, IfOk, IfErr, Some, None};
-ghost use Rattle.iam_model.specs.Commands.{IsEntry, changes_of as the_changes};
+ghost use Rattle.iam_model.specs.Commands as spec;
 ghost use Rattle.iam_model.specs.Formed.{IsChange};
 ghost use Rattle.iam_law.specs.Admit.{admission};
 ghost use Rattle.iam_admit.specs.Facts.{LeadTo};
@@ -24,7 +24,7 @@ pub struct Accepted {
 // The changes of an entry that is accepted. The commands that can't be given yet change nothing.
 fn changes_of(alloc: Global, index: &Index, entry: &Entry) -> Result<List<FactChange>, AdmitStop>
     ensures follows { Follows result (admission index.now entry.now) }
-    ensures changes { IfOk result (λ changes. changes ≡ the_changes index.now entry.now) }
+    ensures changes { IfOk result (λ changes. changes ≡ spec.changes_of index.now entry.now) }
 {
     match &entry.command {
         Command::SetAllow {
@@ -32,16 +32,7 @@ fn changes_of(alloc: Global, index: &Index, entry: &Entry) -> Result<List<FactCh
             version,
             etag,
             bindings,
-        } => set_allow(
-            alloc,
-            index,
-            &entry.caller,
-            entry.moment,
-            node,
-            *version,
-            *etag,
-            bindings,
-        ),
+        } => set_allow(alloc, index, entry, node, *version, *etag, bindings),
         Command::CreateFolder { .. }
         | Command::RenameFolder { .. }
         | Command::CreateProject { .. }
@@ -79,7 +70,7 @@ pub fn admit(
     index: &Index,
     entry: &Entry,
 ) -> Result<Result<Accepted, Refusal>, OutOfMemory>
-    requires { IsEntry entry.now }
+    requires { spec.IsEntry entry.now }
     ensures refused { IfOk result (λ judged. IfErr judged (λ refusal. admission index.now entry.now ≡ Some refusal)) }
     ensures accepted { IfOk result (λ judged. IfOk judged (λ accepted. admission index.now entry.now ≡ None)) }
     ensures formed { IfOk result (λ judged. IfOk judged (λ accepted. All IsChange accepted.changes)) }

@@ -1,7 +1,7 @@
 // The facts that an accepted command changes.
 ghost use Rattle.std.specs.Prelude.{◌≡◌, ◌+◌, ◌<◌, ◌^◌, IfOk};
-ghost use Rattle.iam_model.specs.Allow.{set_changes as the_changes};
-ghost use Rattle.iam_model.specs.Shared.{changed as the_org};
+ghost use Rattle.iam_model.specs.Allow as allow_spec;
+ghost use Rattle.iam_model.specs.Shared as shared_spec;
 
 use iam_names::NodeId;
 use iam_tables::{Binding, Fact, FactChange, Org, Tables, copy_org, policy_after};
@@ -10,7 +10,7 @@ use std::alloc::Global;
 
 fn changed(org: &Org) -> Result<Org, OutOfMemory>
     requires { org.now.changes + 1 < 2 ^ 64 }
-    ensures { IfOk result (λ changed. changed ≡ the_org org.now) }
+    ensures { IfOk result (λ changed. changed ≡ shared_spec.changed org.now) }
 {
     let mut changed = copy_org(org)?;
     changed.changes += 1;
@@ -25,7 +25,7 @@ pub fn set_changes(
     bindings: &List<Binding>,
 ) -> Result<List<FactChange>, OutOfMemory>
     requires { tables.now.org.changes + 1 < 2 ^ 64 }
-    ensures { IfOk result (λ changes. changes ≡ the_changes tables.now node bindings.now) }
+    ensures { IfOk result (λ changes. changes ≡ allow_spec.set_changes tables.now node bindings.now) }
 {
     let policy = policy_after(alloc, tables, node, bindings)?;
     let org = changed(&tables.org)?;

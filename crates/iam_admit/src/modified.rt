@@ -1,67 +1,102 @@
 // The roles of which a change of a policy gives or takes grants.
-ghost use Rattle.std.specs.Prelude.{◌≡◌, ◌++◌, List as Items, IfOk, OnOk, map};
-ghost use Rattle.std.specs.List.{list_any};
-ghost use Rattle.std.specs.Str.{bytes_eq};
+ghost use Rattle.std.specs.Prelude.{◌≡◌, ◌++◌, ◌∷◌, [], IfOk, OnOk, length, map};
+ghost use Rattle.std.specs.List.{list_all, list_any, take_while};
+ghost use Rattle.std.specs.List.Sorted.{IsSorted, IsStable};
+ghost use Rattle.std.specs.Ordering.{is_eq};
 ghost use Rattle.iam_names.specs.Member.{member_text};
-ghost use Rattle.iam_names.specs.Role.{role_text};
-ghost use Rattle.iam_types.specs.declared.allow.Binding.{Binding as ABinding};
-ghost use Rattle.iam_law.specs.Modified.{grants_in as the_grants, grants_of as grants_of_binding, has_all as all_are_there, modified_roles as the_roles, same_condition as conditions_are_same, same_grant as grants_are_same, same_grants as sets_are_same};
-ghost use Rattle.iam_admit.specs.Named.{named_of, named_roles};
+ghost use Rattle.iam_law.specs.Modified as spec;
+ghost use Rattle.iam_admit.specs.Given.{all_given, are_granted, count_old, given_of, is_granted, modified_in, same_in, text_order};
 
 use iam_names::{Member, RoleName, copy_role_name};
 use iam_tables::{Binding, Condition, copy_condition};
-use iam_text::{List, Ordered, OutOfMemory, Text, put_row};
+use iam_text::{List, OutOfMemory, Text};
 use std::alloc::Global;
 use std::cmp::Ordering;
 
-/// A role with its text, by which it stands among others.
+/// What a binding gives: its role, by whose text it stands among others, and its members under its condition.
 #[derive(Drop)]
-pub struct NamedRole {
+pub struct Given {
     text: Text,
     role: RoleName,
+    is_old: bool,
+    members: List<Text>,
+    condition: Option<Condition>,
 }
 
-impl Ordered for NamedRole {
-    ghost use Rattle.std.specs.Cmp.Lexicographic.{on_texts};
-    ghost use Rattle.iam_admit.specs.declared.modified.NamedRole.{NamedRole};
-    ghost use Rattle.iam_admit.specs.Named.{text_order};
+fn texts(alloc: Global, members: &[Member]) -> Result<List<Text>, OutOfMemory>
+    ensures { IfOk result (λ texts. texts ≡ map (λ member. member_text member) members.now) }
+{
+    let mut texts = List::new(alloc);
+    for member in members {
+        texts.push(member.text(alloc)?)?;
+    }
+    Ok(texts)
+}
 
-    ghost order = { text_order };
-
-    ghost total = { on_texts (λ (named : NamedRole). named.text) };
-
-    fn order(&self, other: &NamedRole) -> Ordering {
-        self.text.cmp(&other.text)
+fn condition_of(condition: &Option<Condition>) -> Result<Option<Condition>, OutOfMemory>
+    ensures { IfOk result (λ copy. copy ≡ condition.now) }
+{
+    match condition {
+        None => Ok(None),
+        Some(condition) => Ok(Some(copy_condition(condition)?)),
     }
 }
 
-fn named(alloc: Global, binding: &Binding) -> Result<NamedRole, OutOfMemory>
-    ensures { IfOk result (λ named. named ≡ named_of binding.now) }
+fn given_by(alloc: Global, binding: &Binding, is_old: bool) -> Result<Given, OutOfMemory>
+    ensures { IfOk result (λ given. given ≡ given_of is_old binding.now) }
 {
-    Ok(NamedRole {
+    Ok(Given {
         text: binding.role.text(alloc)?,
         role: copy_role_name(&binding.role)?,
+        is_old,
+        members: texts(alloc, binding.members.as_slice())?,
+        condition: condition_of(&binding.condition)?,
     })
 }
 
-// Puts the roles of bindings that stand before those of the others.
-fn put_roles(
-    alloc: Global,
-    roles: &mut List<NamedRole>,
-    bindings: &[Binding],
-) -> Result<(), OutOfMemory>
-    ensures { (others : Items ABinding) → roles.old ≡ named_roles others → OnOk result (roles.new ≡ named_roles (bindings.now ++ others)) }
+fn push(all: &mut Vec<Given>, given: Given) -> Result<(), OutOfMemory>
+    ensures { OnOk result (all.new.items ≡ all.old.items ++ given ∷ []) }
 {
-    let mut left = bindings.len();
-    while left > 0 {
-        left -= 1;
-        put_row(roles, named(alloc, &bindings[left])?)?;
+    match all.push(given) {
+        Ok(()) => Ok(()),
+        Err(_) => Err(OutOfMemory),
+    }
+}
+
+fn push_given(
+    alloc: Global,
+    all: &mut Vec<Given>,
+    bindings: &[Binding],
+    is_old: bool,
+) -> Result<(), OutOfMemory>
+    ensures { OnOk result (all.new.items ≡ all.old.items ++ map (given_of is_old) bindings.now) }
+{
+    for binding in bindings {
+        push(all, given_by(alloc, binding, is_old)?)?;
     }
     Ok(())
 }
 
+fn by_text(a: &Given, b: &Given) -> Ordering
+    ensures { result ≡ text_order a.now b.now }
+{
+    a.text.cmp(&b.text)
+}
+
+// What the bindings of both policies give, by their roles, and of one role the old ones first.
+fn sorted(alloc: Global, old: &[Binding], new: &[Binding]) -> Result<Vec<Given>, OutOfMemory>
+    ensures ordered { IfOk result (λ all. IsSorted text_order all.items) }
+    ensures stable { IfOk result (λ all. IsStable text_order (all_given old.now new.now) all.items) }
+{
+    let mut all = Vec::new(alloc);
+    push_given(alloc, &mut all, old, true)?;
+    push_given(alloc, &mut all, new, false)?;
+    all.sort_by(by_text)?;
+    Ok(all)
+}
+
 fn same_condition(a: &Option<Condition>, b: &Option<Condition>) -> bool
-    ensures { result ≡ conditions_are_same a.now b.now }
+    ensures { result ≡ spec.same_condition a.now b.now }
 {
     match (a, b) {
         (None, None) => true,
@@ -72,91 +107,75 @@ fn same_condition(a: &Option<Condition>, b: &Option<Condition>) -> bool
     }
 }
 
-fn same_grant(a: &(Text, Option<Condition>), b: &(Text, Option<Condition>)) -> bool
-    ensures { result ≡ grants_are_same a.now b.now }
+fn gives(given: &Given, member: &Text, condition: &Option<Condition>) -> bool
+    ensures { result ≡ list_any (λ text. spec.same_grant (text, given.now.condition) (member.now, condition.now)) given.now.members }
 {
-    a.0.as_str() == b.0.as_str() && same_condition(&a.1, &b.1)
+    given.members.as_slice().iter().any(|text| text.as_str() == member.as_str()
+        && same_condition(&given.condition, condition))
 }
 
-fn has(grants: &[(Text, Option<Condition>)], other: &(Text, Option<Condition>)) -> bool
-    ensures { result ≡ list_any (λ grant. grants_are_same grant other.now) grants.now }
+fn has(given: &[Given], member: &Text, condition: &Option<Condition>) -> bool
+    ensures { result ≡ is_granted given.now (member.now, condition.now) }
 {
-    grants.iter().any(|grant| same_grant(grant, other))
+    given.iter().any(|one| gives(one, member, condition))
 }
 
-fn has_all(grants: &[(Text, Option<Condition>)], others: &[(Text, Option<Condition>)]) -> bool
-    ensures { result ≡ all_are_there grants.now others.now }
+fn has_grants(given: &[Given], other: &Given) -> bool
+    ensures { result ≡ list_all (λ text. is_granted given.now (text, other.now.condition)) other.now.members }
 {
-    others.iter().all(|other| has(grants, other))
+    other
+        .members
+        .as_slice()
+        .iter()
+        .all(|member| has(given, member, &other.condition))
 }
 
-fn given(condition: &Option<Condition>) -> Result<Option<Condition>, OutOfMemory>
-    ensures { IfOk result (λ copy. copy ≡ condition.now) }
+fn has_all(given: &[Given], others: &[Given]) -> bool
+    ensures { result ≡ are_granted given.now others.now }
 {
-    match condition {
-        None => Ok(None),
-        Some(condition) => Ok(Some(copy_condition(condition)?)),
-    }
+    others.iter().all(|other| has_grants(given, other))
 }
 
-fn grant(
-    alloc: Global,
-    member: &Member,
-    condition: &Option<Condition>,
-) -> Result<(Text, Option<Condition>), OutOfMemory>
-    ensures { IfOk result (λ grant. grant ≡ (member_text member.now, condition.now)) }
+// How many at the front are of the old policy.
+fn old_ones(run: &[Given]) -> usize
+    ensures { result ≡ count_old run.now }
 {
-    Ok((member.text(alloc)?, given(condition)?))
-}
-
-fn push_grants(
-    alloc: Global,
-    grants: &mut List<(Text, Option<Condition>)>,
-    binding: &Binding,
-) -> Result<(), OutOfMemory>
-    ensures { OnOk result (grants.new ≡ grants.old ++ grants_of_binding binding.now) }
-{
-    for member in binding.members.as_slice() {
-        grants.push(grant(alloc, member, &binding.condition)?)?;
-    }
-    Ok(())
-}
-
-fn is_named(alloc: Global, role: &RoleName, text: &Text) -> Result<bool, OutOfMemory>
-    ensures { IfOk result (λ is. is ≡ bytes_eq (role_text role.now) text.now) }
-{
-    let role = role.text(alloc)?;
-    Ok(role.as_str() == text.as_str())
-}
-
-// The grants of a role, member by member.
-fn grants_in(
-    alloc: Global,
-    bindings: &[Binding],
-    role: &Text,
-) -> Result<List<(Text, Option<Condition>)>, OutOfMemory>
-    ensures { IfOk result (λ grants. grants ≡ the_grants bindings.now role.now) }
-{
-    let mut grants = List::new(alloc);
-    for binding in bindings {
-        if is_named(alloc, &binding.role, role)? {
-            push_grants(alloc, &mut grants, binding)?;
+    for (at, given) in run.iter().enumerate() {
+        if !given.is_old {
+            return at;
         }
     }
-    Ok(grants)
+    run.len()
 }
 
-fn same_grants(
-    alloc: Global,
-    old: &[Binding],
-    new: &[Binding],
-    role: &Text,
-) -> Result<bool, OutOfMemory>
-    ensures { IfOk result (λ same. same ≡ sets_are_same old.now new.now role.now) }
+fn same_grants(run: &[Given]) -> bool
+    ensures { result ≡ same_in run.now }
 {
-    let before = grants_in(alloc, old, role)?;
-    let after = grants_in(alloc, new, role)?;
-    Ok(has_all(before.as_slice(), after.as_slice()) && has_all(after.as_slice(), before.as_slice()))
+    let (before, after) = run.split_at(old_ones(run));
+    has_all(before, after) && has_all(after, before)
+}
+
+// How many at the front have the role of this one.
+fn run_length(first: &Given, given: &[Given]) -> usize
+    ensures { result ≡ length (take_while (λ other. is_eq (text_order first.now other)) given.now) }
+{
+    given
+        .iter()
+        .take_while(|other| by_text(first, other).is_eq())
+        .count()
+}
+
+fn push_modified(
+    modified: &mut List<RoleName>,
+    first: &Given,
+    run: &[Given],
+) -> Result<(), OutOfMemory>
+    ensures { OnOk result (modified.new ≡ modified.old ++ modified_in first.now run.now) }
+{
+    if same_grants(run) {
+        return Ok(());
+    }
+    modified.push(copy_role_name(&first.role)?)
 }
 
 /// The roles of either policy of which the members, with their conditions, differ: by their texts in bytes, each once.
@@ -165,16 +184,15 @@ pub fn modified_roles(
     old: &[Binding],
     new: &[Binding],
 ) -> Result<List<RoleName>, OutOfMemory>
-    ensures { IfOk result (λ roles. roles ≡ the_roles old.now new.now) }
+    ensures { IfOk result (λ roles. roles ≡ spec.modified_roles old.now new.now) }
 {
-    let mut roles = List::new(alloc);
-    put_roles(alloc, &mut roles, new)?;
-    put_roles(alloc, &mut roles, old)?;
+    let all = sorted(alloc, old, new)?;
     let mut modified = List::new(alloc);
-    for named in roles.as_slice() {
-        if !same_grants(alloc, old, new, &named.text)? {
-            modified.push(copy_role_name(&named.role)?)?;
-        }
+    let mut left = all.as_slice();
+    while let Some((first, _)) = left.split_first() {
+        let (run, rest) = left.split_at(run_length(first, left));
+        push_modified(&mut modified, first, run)?;
+        left = rest;
     }
     Ok(modified)
 }

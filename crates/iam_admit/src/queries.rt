@@ -1,7 +1,7 @@
 // Who may set a policy.
 ghost use Rattle.std.specs.Prelude.{◌≡◌, IfOk, IsTrue, codes};
 ghost use Rattle.iam_model.specs.Nodes.{exists};
-ghost use Rattle.iam_law.specs.Admit.{may_not_set, set_query as the_query};
+ghost use Rattle.iam_law.specs.Admit as spec;
 ghost use Rattle.iam_law.specs.Asked.{permission_at};
 ghost use Rattle.iam_admit.specs.Follows.{Follows};
 
@@ -34,7 +34,7 @@ fn set_query(
     permission: &PermissionName,
 ) -> Result<Query, OutOfMemory>
     requires { permission.now ≡ permission_at node.kind (codes "setIamPolicy") }
-    ensures { IfOk result (λ query. query ≡ the_query tables.now caller.now moment node bindings.now) }
+    ensures { IfOk result (λ query. query ≡ spec.set_query tables.now caller.now moment node bindings.now) }
 {
     Ok(Query {
         caller: copy_caller(caller)?,
@@ -56,7 +56,7 @@ pub fn may_set(
     bindings: &[Binding],
 ) -> Result<(), AdmitStop>
     requires { IsTrue (exists index.now node) }
-    ensures { Follows result (may_not_set index.now caller.now moment node bindings.now) }
+    ensures { Follows result (spec.may_not_set index.now caller.now moment node bindings.now) }
 {
     let permission = permission_named(alloc, set_text(node.kind))?;
     let query = set_query(

@@ -3,9 +3,9 @@ ghost use Rattle.std.specs.Prelude.{◌≡◌, IfOk, IsTrue, Some};
 ghost use Rattle.iam_names.specs.Node.{node_text};
 ghost use Rattle.iam_types.specs.declared.refusal.Refusal.TheVariants.{NotFound};
 ghost use Rattle.iam_model.specs.Limits.{beyond};
-ghost use Rattle.iam_model.specs.Nodes.{exists, resolve as node_named};
+ghost use Rattle.iam_model.specs.Nodes as node_spec;
 ghost use Rattle.iam_model.specs.Shared.{missing};
-ghost use Rattle.iam_law.specs.Asked.{unless_allowed as refused_by};
+ghost use Rattle.iam_law.specs.Asked as asked_spec;
 ghost use Rattle.iam_admit.specs.Follows.{Follows};
 
 use crate::stop::AdmitStop;
@@ -25,8 +25,8 @@ fn not_found(alloc: Global, name: &NodeName) -> Result<Refusal, OutOfMemory>
 /// The node of a name, which must be there.
 pub fn found(alloc: Global, tables: &Tables, name: &NodeName) -> Result<NodeId, AdmitStop>
     ensures follows { Follows result (missing tables.now name.now) }
-    ensures node { IfOk result (λ node. node_named tables.now name.now ≡ Some node) }
-    ensures there { IfOk result (λ node. IsTrue (exists tables.now node)) }
+    ensures node { IfOk result (λ node. node_spec.resolve tables.now name.now ≡ Some node) }
+    ensures there { IfOk result (λ node. IsTrue (node_spec.exists tables.now node)) }
 {
     match resolve(tables, name) {
         Some(node) => Ok(node),
@@ -36,7 +36,7 @@ pub fn found(alloc: Global, tables: &Tables, name: &NodeName) -> Result<NodeId, 
 
 /// The decision on the permission allows.
 pub fn allowed(permission: PermissionName, decision: Decision) -> Result<(), AdmitStop>
-    ensures { Follows result (refused_by permission decision) }
+    ensures { Follows result (asked_spec.unless_allowed permission decision) }
 {
     match unless_allowed(permission, decision) {
         Some(refusal) => Err(AdmitStop::Refused(refusal)),

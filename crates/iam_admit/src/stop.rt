@@ -11,9 +11,9 @@ pub enum AdmitStop {
 
 impl From<OutOfMemory> for AdmitStop {
     ghost use Rattle.std.specs.Prelude.{◌≡◌};
-    ghost use Rattle.iam_admit.specs.declared.stop.AdmitStop.TheVariants.{OutOfMemory as NoMemory};
+    ghost use Rattle.iam_admit.specs.declared.stop.AdmitStop.TheVariants as variant;
 
-    ghost from_gives = { λ _ stop. stop ≡ NoMemory };
+    ghost from_gives = { λ _ stop. stop ≡ variant.OutOfMemory };
 
     fn from(_: OutOfMemory) -> AdmitStop {
         AdmitStop::OutOfMemory

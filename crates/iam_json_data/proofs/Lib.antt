@@ -4,3 +4,4 @@ pub mod Members
 pub mod Floats
 pub mod Objects
 pub mod One
+pub mod Given

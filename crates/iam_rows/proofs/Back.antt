@@ -1,15 +1,12 @@
 -- Bodies of kept facts are read back.
-use Rattle.std.proofs.Common.{◌≡◌, ℕ, ◌<◌, ◌≤◌, ◌^◌, suc, List, [], ◌∷◌, map, Option, Some, None, Result, Ok, Err, codes, inl, inr, refl, sym, ap, ◌∙◌, subst, arith, false, unwrap_or}
+use Rattle.std.proofs.Common.{◌≡◌, ℕ, ◌<◌, ◌≤◌, ◌^◌, List, [], ◌∷◌, map, Option, Some, None, Result, Ok, Err, codes, inl, inr, refl, sym, ap, ◌∙◌, subst, arith, false}
 use Rattle.std.specs.Prelude.{⊤}
-use Rattle.serde_json.specs.Data.{Data, Items, no_items, item, depth, items_depth}
+use Rattle.serde_json.specs.Data.{Data, depth, items_depth}
 use Rattle.serde_json.specs.View.{items_of}
 use Rattle.serde_json.specs.Read.{read, max_depth}
 use Rattle.serde_json.specs.Written.{has_float}
 use Rattle.iam_names.specs.Domain.{IsDomain, IsCustomer}
-use Rattle.iam_names.specs.Member.{IsMember, member_text}
 use Rattle.iam_names.specs.Number.{IsNodeNumber}
-use Rattle.iam_names.specs.Role.{IsRoleName, role_text}
-use Rattle.iam_names.specs.declared.member.Member.{Member}
 use Rattle.iam_names.specs.declared.node.NodeKind.{NodeKind}
 use Rattle.serde_json.specs.Find.{as_object, as_array}
 use Rattle.iam_types.specs.declared.allow.Binding.{Binding}
@@ -18,15 +15,16 @@ use Rattle.iam_types.specs.declared.allow.Condition.{Condition}
 use Rattle.iam_types.specs.declared.node.Org.{Org}
 use Rattle.iam_json_data.specs.Printed.{printed}
 use Rattle.iam_json_data.specs.Shown.{member_data, binding_data}
-use Rattle.iam_json_data.specs.Reading.{Then, ReadsText, ReadsItems, ReadsSome, ReadsList, ReadsMember, ReadsRequired, present}
+use Rattle.iam_json_data.specs.Reading.{Then, ReadsList, ReadsRequired, present}
 use Rattle.iam_json_data.specs.Readers.{ReadsBinding}
 use Rattle.iam_json_data.proofs.Floats.{list_without_float, binding_without_float}
+use Rattle.iam_json_data.proofs.Given.{IsFormed, binding_is, list_is, object_is, required_is}
 use Rattle.std.specs.List.{AllByRecursion as Each}
 use Rattle.std.specs.Prelude.{true, All}
-use Rattle.std.proofs.lemmas.List.Elements.{recursion_from_All, All-weaker}
+use Rattle.std.proofs.lemmas.List.Elements.{All-weaker}
 use Rattle.iam_model.specs.Formed.{IsOrgFact, IsPolicyFact, IsStored}
 use Rattle.iam_model.specs.Policies.{has_members}
-use Rattle.iam_rows.proofs.Formed.{IsKept, all_kept, all_stored}
+use Rattle.iam_rows.proofs.Formed.{IsKept, all_kept}
 use Rattle.iam_rows.specs.Rows.{org_data, policy_data}
 use Rattle.iam_rows.specs.Finding.{Guesses, ReadsRow, org_with, policy_with}
 use Rattle.iam_rows.specs.Bodies.{ReadsOrgBody, ReadsPolicyBody}
@@ -35,7 +33,7 @@ use Rattle.iam_rows.specs.declared.stop.RowStop.TheVariants.{BadRow, OutOfMemory
 use Rattle.iam_rows.specs.declared.body.OrgBody.{OrgBody}
 use Rattle.iam_rows.specs.declared.body.PolicyBody.{PolicyBody}
 use Rattle.iam_rows.proofs.Printing.{IsPlain, ArePlain, read-compact_text}
-use Rattle.iam_rows.proofs.Kept.{plain_binding, after_role, after_bindings, body_of, org_told, body_of_policy, policy_told}
+use Rattle.iam_rows.proofs.Kept.{after_bindings, body_of, org_told, body_of_policy, policy_told}
 
 -- ---- what is shown has its members in order, small numbers, and few levels
 
@@ -157,73 +155,23 @@ policy_guessed text n body h kept is =
 
 -- what is read of bindings is kept where each has members
 
-inside_object : {A B : Type 0} (reads : Result A (List ℕ) → Type 0) (o : Option B) (v : A) → ReadsSome (λ _. reads) o (Ok v) → reads (Ok v)
-inside_object reads None v h = absurd (cc h)
-inside_object reads (Some there) v h = h
-
-required_formed : {A : Type 0} (F : A → Type 0) (w : A → List ℕ) (name : List ℕ) (o : Option Data) (v : A) → ReadsRequired (ReadsText F w) name o (Ok v) → F v
-required_formed F w name None v h = absurd (cc h)
-required_formed F w name (Some d) v h = h.0
-
-items_formed : {A : Type 0} (F : A → Type 0) (w : A → List ℕ) (place : ℕ) (ds : Items) (vs : List A) → ReadsItems (ReadsText F w) place ds (Ok vs) → Each F vs
-items_formed F w place no_items [] h = tt
-items_formed F w place no_items (v ∷ vs) h = absurd (cc h)
-items_formed F w place (item d ds) [] h = absurd h
-items_formed F w place (item d ds) (v ∷ vs) h = (h.0.0, items_formed F w (suc place) ds vs h.1)
-
-list_formed : {A : Type 0} (F : A → Type 0) (w : A → List ℕ) (o : Option Items) (vs : List A) → ReadsSome (ReadsItems (ReadsText F w) 0) o (Ok vs) → Each F vs
-list_formed F w None vs h = absurd (cc h)
-list_formed F w (Some ds) vs h = items_formed F w 0 ds vs h
-
-members_formed : (name : List ℕ) (o : Option Data) (ms : Option (List Member)) → ReadsMember (ReadsList (ReadsText IsMember member_text)) name o (Ok ms) → Each IsMember (unwrap_or ms [])
-members_formed name None None h = tt
-members_formed name None (Some ms) h = absurd (cc h)
-members_formed name (Some d) None h = absurd h
-members_formed name (Some d) (Some ms) h = list_formed IsMember member_text (as_array d) ms h
-
 abbrev pub HasMembers : Binding → Type 0
 HasMembers binding = has_members binding ≡ true
 
-abbrev IsRead : Binding → Type 0
-IsRead binding = IsRoleName binding.role × Each IsMember binding.members × (binding.condition ≡ None)
-
--- what is read of a binding's members
-abbrev reads_binding : Data → Result Binding (List ℕ) → Type 0
-reads_binding d = Then (ReadsRequired (ReadsText IsRoleName role_text) (codes "role") (present (codes "role") d)) (after_role d)
-
-binding_kept : (d : Data) (binding : Binding) → ReadsBinding d (Ok binding) → HasMembers binding → IsKept binding
-binding_kept d binding h some =
-    let inside = inside_object (reads_binding d) (as_object d) binding h in
-    let same : binding ≡ plain_binding inside.0 (unwrap_or inside.2.0 []) = cc (inside.2.2.2) in
-    let formed = subst IsRead (sym same)
-    (required_formed IsRoleName role_text (codes "role") (present (codes "role") d) inside.0 inside.1, members_formed (codes "members") (present (codes "members") d) inside.2.0 inside.2.1, refl) in
-    (formed.0, formed.1, some, formed.2)
-
-items_kept : (place : ℕ) (ds : Items) (bindings : List Binding) → ReadsItems ReadsBinding place ds (Ok bindings) → Each HasMembers bindings → Each IsKept bindings
-items_kept place no_items [] h some = tt
-items_kept place no_items (b ∷ bs) h some = absurd (cc h)
-items_kept place (item d ds) [] h some = absurd h
-items_kept place (item d ds) (b ∷ bs) h some = (binding_kept d b h.0 some.0, items_kept (suc place) ds bs h.1 some.1)
-
-list_kept : (o : Option Items) (bindings : List Binding) → ReadsSome (ReadsItems ReadsBinding 0) o (Ok bindings) → Each HasMembers bindings → Each IsKept bindings
-list_kept None bindings h some = absurd (cc h)
-list_kept (Some ds) bindings h some = items_kept 0 ds bindings h some
-
-required_kept : (o : Option Data) (bindings : List Binding) → ReadsRequired (ReadsList ReadsBinding) (codes "bindings") o (Ok bindings) → Each HasMembers bindings → Each IsKept bindings
-required_kept None bindings h some = absurd (cc h)
-required_kept (Some d) bindings h some = list_kept (as_array d) bindings h some
+stored_where : (bindings : List Binding) → All IsFormed bindings → All HasMembers bindings → All IsStored bindings
+stored_where bindings read some = λ k d within. let formed = read k d within in record { role = formed.0; members = formed.1; some = some k d within; unconditional = formed.2 }
 
 abbrev reads_policy : Data → Result PolicyBody (List ℕ) → Type 0
 reads_policy d = Then (ReadsRequired (ReadsList ReadsBinding) (codes "bindings") (present (codes "bindings") d)) (after_bindings d)
 
 pub policy_formed : (text : List ℕ) (n : ℕ) (body : PolicyBody) → IsNodeNumber n → body.set < 2 ^ 64 → ReadsRow ReadsPolicyBody text (Ok body) → All HasMembers body.bindings → IsPolicyFact (policy_with n body)
 policy_formed text n body fits set h some =
-    let inside = inside_object (reads_policy h.0) (as_object h.0) body h.2 in
+    let inside = object_is (reads_policy h.0) (as_object h.0) body h.2 in
     let same : body ≡ record { bindings = inside.0; set = inside.2.0 } = cc (inside.2.2) in
     let bindings : body.bindings ≡ inside.0 = ap (λ (b : PolicyBody). b.bindings) same in
-    let each = recursion_from_All HasMembers body.bindings some in
-    let kept = required_kept (present (codes "bindings") h.0) inside.0 inside.1 (subst (λ (bs : List Binding). Each HasMembers bs) bindings each) in
-    record { kind = refl; number = fits; bindings = all_stored body.bindings (subst (λ (bs : List Binding). Each IsKept bs) (sym bindings) kept); set = set }
+    let list = required_is (ReadsList ReadsBinding) (codes "bindings") (present (codes "bindings") h.0) inside.0 inside.1 in
+    let read : All IsFormed inside.0 = list_is ReadsBinding IsFormed binding_is (as_array list.0) inside.0 list.1 in
+    record { kind = refl; number = fits; bindings = stored_where body.bindings (subst (λ (bs : List Binding). All IsFormed bs) (sym bindings) read) some; set = set }
 
 with_members : (bindings : List Binding) → All IsStored bindings → All HasMembers bindings
 with_members bindings all = All-weaker IsStored HasMembers (λ b stored. stored.some) bindings all

@@ -2,7 +2,7 @@
 use Rattle.std.proofs.Common.{◌≡◌, true, List, None}
 use Rattle.std.specs.Prelude.{All}
 use Rattle.std.specs.List.{AllByRecursion as Each}
-use Rattle.std.proofs.lemmas.List.Elements.{recursion_from_All, All-from_recursion, All-weaker}
+use Rattle.std.proofs.lemmas.List.Elements.{recursion_from_All, All-weaker}
 use Rattle.iam_names.specs.Member.{IsMember}
 use Rattle.iam_names.specs.Role.{IsRoleName}
 use Rattle.iam_types.specs.declared.allow.Binding.{Binding}
@@ -16,11 +16,5 @@ IsKept binding = IsRoleName binding.role × Each IsMember binding.members × (ha
 kept : (binding : Binding) → IsStored binding → IsKept binding
 kept binding stored = (stored.role, recursion_from_All IsMember binding.members stored.members, stored.some, stored.unconditional)
 
-stored : (binding : Binding) → IsKept binding → IsStored binding
-stored binding kept = record { role = kept.0; members = All-from_recursion IsMember binding.members kept.1; some = kept.2; unconditional = kept.3 }
-
 pub all_kept : (bindings : List Binding) → All IsStored bindings → Each IsKept bindings
 all_kept bindings all = recursion_from_All IsKept bindings (All-weaker IsStored IsKept kept bindings all)
-
-pub all_stored : (bindings : List Binding) → Each IsKept bindings → All IsStored bindings
-all_stored bindings each = All-weaker IsKept IsStored stored bindings (All-from_recursion IsKept bindings each)

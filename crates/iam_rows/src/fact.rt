@@ -16,7 +16,7 @@ use crate::stop::RowStop;
 use iam_json_data::{BodyStop, FromJson};
 use iam_names::{NodeId, NodeKind, NodeName, is_customer, is_domain};
 use iam_outer::Row;
-use iam_text::{OutOfMemory, Text};
+use iam_text::{OutOfMemory, Text, let_go};
 use iam_types::{AllowPolicy, Binding, Fact, Org};
 use serde_json::Value;
 use std::alloc::Global;
@@ -203,9 +203,6 @@ fn keeps(alloc: Global, row: &Row, fact: &Fact) -> Result<bool, OutOfMemory>
     let again = row_of(alloc, fact)?;
     Ok(same_row(&again, row))
 }
-
-// Drops a value. A function that drops a fact by itself has a branch for each kind of fact.
-fn let_go<T: Drop>(_value: T) {}
 
 /// The fact that a row keeps. The row has to be its row byte for byte.
 pub fn fact_of(alloc: Global, row: &Row) -> Result<Fact, RowStop>

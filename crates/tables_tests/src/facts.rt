@@ -1,9 +1,9 @@
 // The first rule that facts break. They are read of rows, in the order of these.
-use crate::given::{NAME, let_go, row};
+use crate::given::{NAME, row};
 use iam_outer::Row;
 use iam_rows::{LoadStop, facts_of_rows};
 use iam_tables::{TablesStop, from_facts};
-use iam_text::{List, OutOfMemory};
+use iam_text::{List, OutOfMemory, let_go};
 use std::alloc::{AllocError, Global};
 use std::fmt::Write;
 use std::test::Fail;

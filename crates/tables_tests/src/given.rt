@@ -13,9 +13,6 @@ pub const ALLOW: &str =
 pub const ORG: &str =
     "{\"changes\":1,\"customer\":\"C01\",\"domain\":\"example.com\",\"next\":1,\"schema\":1}";
 
-/// Lets a value of any kind go.
-pub fn let_go<T: Drop>(_value: T) {}
-
 pub fn row(alloc: Global, part: &str, name: &str, body: &str) -> Result<Row, OutOfMemory> {
     Ok(Row {
         part: Text::of(alloc, part)?,

@@ -1,9 +1,9 @@
 // The rows of an opening, byte for byte, and rows that keep nothing.
-use crate::given::{ALLOW, NAME, ORG, let_go, row};
+use crate::given::{ALLOW, NAME, ORG, row};
 use iam_outer::{Row, RowWrite};
 use iam_rows::{LoadStop, RowStop, fact_of, facts_of_rows, row_of, writes_of};
 use iam_tables::FactChange;
-use iam_text::{List, Text};
+use iam_text::{List, Text, let_go};
 use std::alloc::Global;
 use std::test::Fail;
 

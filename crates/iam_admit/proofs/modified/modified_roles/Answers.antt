@@ -1,27 +1,25 @@
-use Rattle.std.proofs.Common.{◌≡◌, ◌++◌, Bool, true, false, List, [], map, ap, sym, ◌∙◌, append-nil}
-use Rattle.std.specs.Prelude.{not, filter}
-use Rattle.std.proofs.lemmas.List.{take_all}
-use Rattle.iam_law.specs.Modified.{same_grants}
-use Rattle.iam_admit.specs.Named.{named_roles}
-use Rattle.iam_admit.specs.declared.modified.NamedRole.{NamedRole}
-use Rattle.iam_admit.proofs.Named.{modified_named, one_role}
+use Rattle.std.proofs.Common.{◌≡◌, List, [], ◌++◌, sym, subst, append-nil, ap, ◌∙◌}
+use Rattle.std.proofs.lemmas.List.{nil_from_length}
+use Rattle.iam_names.specs.declared.role.RoleName.{RoleName}
+use Rattle.iam_admit.specs.declared.modified.Given.{Given}
+use Rattle.iam_admit.proofs.Runs.{AreGone, all_gone, changed, run_fewer, run_gone}
 use Rattle.iam_admit.proofs.modified.modified_roles.Goals as goal
-use Rattle.iam_admit.proofs.modified.modified_roles.Goals.{then-not-branch+in_ok-copy_role_name+in_ok-push, else-not-branch}
 
-pub loop-named-preserved : goal.loop-named-preserved
-loop-named-preserved c =
-    let next = λ (same : Bool). one_role c.args.old.now c.args.new.now c.as_slice-named-items.result.now c.loop-named.named-index c.named-item.result same c.loop-named-test.true c.named-item.is in
-    let so_far = c.loop-named.invariant in
-    elim c.if-not-branch.branch [
-      | then-not-branch+in_ok-copy_role_name+in_ok-push w ↦ let step = next false (sym w.if-not-branch.true ∙ c.in_ok-same_grants.ensures) in cc (step, so_far, w.in_ok-push.ensures.ok, w.in_ok-copy_role_name.ensures, w.modified-is)
-      | else-not-branch w ↦ let step = next true (sym w.if-not-branch.false ∙ c.in_ok-same_grants.ensures) in w.modified-is ∙ so_far ∙ sym (step ∙ append-nil _)
-    ]
+pub loop-first-init : goal.loop-first-init
+loop-first-init c =
+    subst (λ (modified : List RoleName). AreGone c.args.old.now c.args.new.now modified c.as_slice-left.result.now) (sym c.new-modified.ensures)
+    (subst (λ (left : List Given). AreGone c.args.old.now c.args.new.now [] left) (sym c.as_slice-left.ensures.value)
+    (all_gone c.args.old.now c.args.new.now c.in_ok-all.all.items c.in_ok-all.ensures.ordered c.in_ok-all.ensures.stable))
+
+pub loop-first-preserved : goal.loop-first-preserved
+loop-first-preserved c =
+    run_gone c.args.old.now c.args.new.now c.loop-first.left.now c.in-Some.first.now c.in-Some.field-0-1.now c.run_length.result c.split_at.result.0.now c.split_at.result.1.now c.loop-first.modified c.push_modified.new.modified
+    c.in-Some.ensures.cases.0 c.run_length.ensures c.split_at.ensures.front c.split_at.ensures.back c.in_ok-push_modified.ensures c.loop-first.invariant
+
+pub loop-first-smaller : goal.loop-first-smaller
+loop-first-smaller c = run_fewer c.loop-first.left.now c.in-Some.first.now c.in-Some.field-0-1.now c.run_length.result c.split_at.result.1.now c.in-Some.ensures.cases.0 c.run_length.ensures c.split_at.ensures.back
 
 pub returns : goal.returns
 returns c =
-    let given : c.put_roles.new.roles ≡ named_roles (c.args.new.now ++ []) = c.in_ok-put_roles.ensures [] c.new-roles.ensures in
-    let roles : c.put_roles-2.new.roles ≡ named_roles (c.args.old.now ++ c.args.new.now) = c.in_ok-put_roles-2.ensures c.args.new.now (given ∙ ap named_roles (append-nil c.args.new.now)) in
-    c.loop-named.invariant
-    ∙ ap (λ (roles : List NamedRole). map (λ (named : NamedRole). named.role) (filter (λ (named : NamedRole). not (same_grants c.args.old.now c.args.new.now named.text)) roles))
-    (take_all c.loop-named.named-index c.as_slice-named-items.result.now c.loop-named-test.false ∙ c.as_slice-named-items.ensures ∙ roles)
-    ∙ modified_named c.args.old.now c.args.new.now
+    let none : c.loop-first.left.now ≡ [] = nil_from_length c.loop-first.left.now c.in_default.ensures.cases in
+    sym (append-nil c.loop-first.modified) ∙ ap (λ (left : List Given). c.loop-first.modified ++ changed c.args.old.now c.args.new.now left) (sym none) ∙ c.loop-first.invariant.0

@@ -1,7 +1,9 @@
-use Rattle.std.proofs.Common.{◌≡◌, map, take}
-use Rattle.std.specs.Prelude.{not, filter}
-use Rattle.iam_law.specs.Modified.{same_grants}
+use Rattle.std.proofs.Common.{length}
+use Rattle.iam_admit.proofs.Runs.{AreGone}
 use Rattle.iam_admit.proofs.modified.modified_roles.Given as goal
 
-abbrev pub invariant-loop-named : goal.invariant-loop-named
-invariant-loop-named l = l.modified ≡ map (λ named. named.role) (filter (λ named. not (same_grants l.old l.new named.text)) (take l.named-index l.named-items))
+abbrev pub invariant-loop-first : goal.invariant-loop-first
+invariant-loop-first l = AreGone l.old l.new l.modified l.left
+
+abbrev pub decreases-loop-first : goal.decreases-loop-first
+decreases-loop-first l = length l.left
