@@ -1,9 +1,10 @@
 -- Each body has one answer.
-use Rattle.std.proofs.Common.{◌≡◌, ℕ, Bool, true, false, List, Option, Result, Ok, Err, refl, sym, ap, ◌∙◌, codes, option_map, ◌==◌}
-use Rattle.std.specs.Bool.{MatchBool}
+use Rattle.std.proofs.Common.{◌≡◌, ℕ, List, Option, Result, Ok, Err, refl, sym, ap, ◌∙◌, subst, codes, option_map}
 use Rattle.serde_json.specs.Data.{Data}
 use Rattle.iam_names.specs.Permission.{IsPermission, permission_text}
-use Rattle.iam_names.proofs.Told.{permission_told}
+use Rattle.iam_names.specs.Node.{node_text}
+use Rattle.iam_names.specs.declared.node.NodeName.{NodeName}
+use Rattle.iam_names.proofs.Told.{node_told, permission_told}
 use Rattle.iam_types.specs.declared.allow.Binding.{Binding}
 use Rattle.iam_types.specs.declared.ask.Ask.TheVariants.{Test, Policy}
 use Rattle.iam_types.specs.declared.command.Command.TheVariants.{SetAllow}
@@ -13,8 +14,10 @@ use Rattle.iam_json_data.specs.Readers.{ReadsBinding}
 use Rattle.iam_json_data.proofs.Etags.{etag_told}
 use Rattle.iam_json_data.proofs.One.{IsOne, then_one, text_one, number_one, list_one, member_one, required_one, object_one, binding_one}
 use Rattle.iam_json.specs.Bodies.{Made, ReadsEtag, ReadsNoItems, ReadsVersion, ReadsTest, ReadsOptions, version_of, ReadsReading, ReadsBindings, ReadsPolicy, ReadsSetting}
-use Rattle.iam_json.specs.Calls.{AtMostOneCall}
+use Rattle.iam_json.specs.Calls.{NamesNode, AtMostOneCall}
+use Rattle.iam_json.specs.declared.call.Call.{Call}
 use Rattle.iam_json.specs.declared.call.Call.TheVariants.{Write, Read}
+use Rattle.iam_json.specs.declared.route.Line.TheVariants.{TestPermissions, ReadPolicy, SetPolicy}
 use Rattle.iam_json.specs.declared.policy.Etag.{Etag}
 use Rattle.iam_json.specs.declared.policy.GivenOptions.{GivenOptions}
 use Rattle.iam_json.specs.declared.policy.GivenPolicy.{GivenPolicy}
@@ -91,14 +94,25 @@ setting_one d = object_one _ (λ e. required_one ReadsPolicy policy_one (codes "
 
 -- ---- the calls
 
--- one of two, by a test
-either_one : {A : Type 0} (test : Bool) (first second : Result A (List ℕ) → Type 0) → IsOne first → IsOne second → IsOne (λ said. MatchBool test (first said) (second said))
-either_one true first second one other said again h g = one said again h g
-either_one false first second one other said again h g = other said again h g
+abbrev set_call : NodeName → GivenPolicy → Call
+set_call node policy = Write (SetAllow node policy.version policy.etag policy.bindings)
+
+-- parameters name one node
+same_node : (parts : List (List ℕ)) (node other : NodeName) → NamesNode parts node → NamesNode parts other → node ≡ other
+same_node parts node other named also =
+    let both = sym named.1 ∙ also.1 in
+    let texts : node_text node ≡ node_text other = cc both in
+    node_told node other named.0 also.0 texts
+
+-- a call on a node is one where it is one for each node
+on_node_one : (parts : List (List ℕ)) (reads : NodeName → Result Call (List ℕ) → Type 0) → ((node : NodeName) → IsOne (reads node)) → IsOne (λ said. (node : NodeName) × NamesNode parts node × reads node said)
+on_node_one parts reads one said other h g =
+    one g.0 said other (subst (λ (n : NodeName). reads n said) (same_node parts h.0 g.0 h.1 g.1) h.2) g.2
 
 pub line_one : AtMostOneCall
-line_one line node d said other h g =
-    either_one (line == 1) _ _ (made_one (λ permissions. Read (Test node permissions)) _ (test_one d))
-    (either_one (line == 2) _ _ (made_one (λ version. Read (Policy node version)) _ (reading_one d))
-    (made_one (λ policy. Write (SetAllow node policy.version policy.etag policy.bindings)) _ (setting_one d)))
-    said other h g
+line_one TestPermissions parts pairs d =
+    on_node_one parts (λ node. Made (λ permissions. Read (Test node permissions)) (ReadsTest d)) (λ node. made_one (λ permissions. Read (Test node permissions)) (ReadsTest d) (test_one d))
+line_one ReadPolicy parts pairs d =
+    on_node_one parts (λ node. Made (λ version. Read (Policy node version)) (ReadsReading d)) (λ node. made_one (λ version. Read (Policy node version)) (ReadsReading d) (reading_one d))
+line_one SetPolicy parts pairs d =
+    on_node_one parts (λ node. Made (set_call node) (ReadsSetting d)) (λ node. made_one (set_call node) (ReadsSetting d) (setting_one d))

@@ -1,12 +1,14 @@
 // The call of a route and a body.
 ghost use Rattle.std.specs.Prelude.{IfOk};
 ghost use Rattle.serde_json.specs.View.{view};
+ghost use Rattle.iam_names.specs.declared.node.NodeName.{NodeName};
 ghost use Rattle.iam_json_data.specs.Body.{BodyGives};
 ghost use Rattle.iam_json_data.specs.Reading.{Gives};
 ghost use Rattle.iam_json.specs.Bodies.{ReadsTest};
-ghost use Rattle.iam_json.specs.Calls.{IsRoute, NamesNode, ReadsLine, ReadsCall};
+ghost use Rattle.iam_json.specs.Calls.{IsRoute, NamesNode, ReadsPermissionsTest, ReadsPolicyReading, ReadsPolicySetting, ReadsCall};
 
 use crate::policy::{read_reading, read_setting};
+use crate::route::{Line, Route};
 use iam_json_data::{BodyStop, bad_here, read_body, read_required};
 use iam_names::{NodeName, PermissionName};
 use iam_text::{List, OutOfMemory, Text};
@@ -14,19 +16,24 @@ use iam_types::{Ask, Command};
 use serde_json::Value;
 use std::alloc::Global;
 
-/// A line of the route table, with the decoded parameters of the path and the query.
-#[derive(Drop)]
-pub struct Route {
-    pub number: u16,
-    pub parts: List<Text>,
-    pub pairs: List<(Text, Text)>,
-}
-
 /// What a request asks for.
 #[derive(Drop)]
 pub enum Call {
     Write(Command),
     Read(Ask),
+}
+
+fn node_of(alloc: Global, parts: &[Text]) -> Result<NodeName, OutOfMemory>
+    requires { (node : NodeName) × NamesNode parts.now node }
+    ensures { IfOk result (NamesNode parts.now) }
+{
+    match parts {
+        [text] => match NodeName::read(alloc, text.as_str())? {
+            Some(node) => Ok(node),
+            None => unreachable!(),
+        },
+        _ => unreachable!(),
+    }
 }
 
 /// The permissions that a test asks about.
@@ -39,30 +46,29 @@ fn read_test(alloc: Global, value: &Value) -> Result<List<PermissionName>, BodyS
     read_required(alloc, "permissions", value)
 }
 
-fn node_of(alloc: Global, route: &Route) -> Result<NodeName, OutOfMemory>
-    requires { IsRoute route.now }
-    ensures { IfOk result (NamesNode route.now.parts) }
+fn permissions_test(alloc: Global, parts: &[Text], value: &Value) -> Result<Call, BodyStop>
+    requires { (node : NodeName) × NamesNode parts.now node }
+    ensures { Gives (ReadsPermissionsTest parts.now (view value.now)) result }
 {
-    match route.parts.as_slice() {
-        [text] => match NodeName::read(alloc, text.as_str())? {
-            Some(node) => Ok(node),
-            None => unreachable!(),
-        },
-        _ => unreachable!(),
-    }
+    let node = node_of(alloc, parts)?;
+    let permissions = read_test(alloc, value)?;
+    Ok(Call::Read(Ask::Test { node, permissions }))
 }
 
-fn call_of(alloc: Global, line: u16, node: NodeName, value: &Value) -> Result<Call, BodyStop>
-    ensures { Gives (ReadsLine line node (view value.now)) result }
+fn policy_reading(alloc: Global, parts: &[Text], value: &Value) -> Result<Call, BodyStop>
+    requires { (node : NodeName) × NamesNode parts.now node }
+    ensures { Gives (ReadsPolicyReading parts.now (view value.now)) result }
 {
-    if line == 1 {
-        let permissions = read_test(alloc, value)?;
-        return Ok(Call::Read(Ask::Test { node, permissions }));
-    }
-    if line == 2 {
-        let version = read_reading(alloc, value)?;
-        return Ok(Call::Read(Ask::Policy { node, version }));
-    }
+    let node = node_of(alloc, parts)?;
+    let version = read_reading(alloc, value)?;
+    Ok(Call::Read(Ask::Policy { node, version }))
+}
+
+fn policy_setting(alloc: Global, parts: &[Text], value: &Value) -> Result<Call, BodyStop>
+    requires { (node : NodeName) × NamesNode parts.now node }
+    ensures { Gives (ReadsPolicySetting parts.now (view value.now)) result }
+{
+    let node = node_of(alloc, parts)?;
     let policy = read_setting(alloc, value)?;
     Ok(Call::Write(Command::SetAllow {
         node,
@@ -72,6 +78,18 @@ fn call_of(alloc: Global, line: u16, node: NodeName, value: &Value) -> Result<Ca
     }))
 }
 
+fn call_of(alloc: Global, route: &Route, value: &Value) -> Result<Call, BodyStop>
+    requires { IsRoute route.now }
+    ensures { Gives (ReadsCall route.now (view value.now)) result }
+{
+    let parts = route.parts.as_slice();
+    match route.line {
+        Line::TestPermissions => permissions_test(alloc, parts, value),
+        Line::ReadPolicy => policy_reading(alloc, parts, value),
+        Line::SetPolicy => policy_setting(alloc, parts, value),
+    }
+}
+
 /// The call of a request. Unknown members are passed over, null counts as absent, and an empty body is `{}`. Of
 /// several bad members the first is named, in the order in which `specs/Bodies.antt` reads them.
 pub fn read_call(alloc: Global, route: &Route, body: &[u8]) -> Result<Call, BodyStop>
@@ -79,6 +97,5 @@ pub fn read_call(alloc: Global, route: &Route, body: &[u8]) -> Result<Call, Body
     ensures { BodyGives (ReadsCall route.now) body.now result }
 {
     let value = read_body(alloc, body)?;
-    let node = node_of(alloc, route)?;
-    call_of(alloc, route.number, node, &value)
+    call_of(alloc, route, &value)
 }

@@ -12,10 +12,12 @@ mod laws;
 mod line;
 mod policy;
 mod reply;
+mod route;
 
 pub use answer::answer_body;
-pub use call::{Call, Route, read_call};
+pub use call::{Call, read_call};
 pub use details::Details;
 pub use iam_json_data::{BodyStop, etag_number, etag_text};
 pub use laws::one_call;
 pub use reply::{ErrorReply, code_of, error_body, refusal_code};
+pub use route::{Line, Route};

@@ -13,17 +13,17 @@ use std::alloc::{AllocError, Global};
 /// How a refusal is called: its number, its HTTP status code, its reason, and its status in Google's canon
 /// (`google.rpc.Code`).
 #[derive(Clone, Copy)]
-pub struct Line {
+pub struct RefusalLine {
     pub number: u8,
     pub code: u16,
     pub reason: &'static str,
     pub status: &'static str,
 }
 
-fn called(number: u8, reason: &'static str, code: u16, status: &'static str) -> Line
+fn called(number: u8, reason: &'static str, code: u16, status: &'static str) -> RefusalLine
     ensures { seen result ≡ line number reason.now code status.now }
 {
-    Line {
+    RefusalLine {
         number,
         code,
         reason,
@@ -31,7 +31,7 @@ fn called(number: u8, reason: &'static str, code: u16, status: &'static str) -> 
     }
 }
 
-pub fn line_of(details: &Details) -> Line
+pub fn line_of(details: &Details) -> RefusalLine
     ensures { seen result ≡ line_of details.now }
 {
     match details {
@@ -50,7 +50,7 @@ pub fn line_of(details: &Details) -> Line
     }
 }
 
-pub fn refusal_line(refusal: &Refusal) -> Line
+pub fn refusal_line(refusal: &Refusal) -> RefusalLine
     ensures { seen result ≡ refusal_line refusal.now }
 {
     match refusal {
@@ -91,7 +91,7 @@ fn refusal_value(
 }
 
 /// What is printed of a refusal that is called so.
-pub fn line_value(alloc: Global, line: &Line, details: Value) -> Result<Value, OutOfMemory>
+pub fn line_value(alloc: Global, line: &RefusalLine, details: Value) -> Result<Value, OutOfMemory>
     ensures { IfOk result (λ v. view v ≡ line_data (seen line.now) (view details)) }
 {
     Ok(refusal_value(alloc, line.code, line.reason, line.status, details)?)

@@ -1,5 +1,10 @@
 pub mod Askings
 pub mod Calls
+pub mod Cutting
 pub mod Lines
-pub mod Paths
+pub mod Listed
+pub mod Matching
+pub mod Names
+pub mod Seeking
+pub mod Segments
 pub mod Targets

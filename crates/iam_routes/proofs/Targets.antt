@@ -1,88 +1,111 @@
 -- Targets and the lines of the route table.
-use Rattle.std.proofs.Common.{◌≡◌, ◌≢◌, ℕ, Bool, true, false, not, ◌&&◌, ◌||◌, List, [], ◌∷◌, ◌++◌, refl, sym, ap, ◌∙◌, subst}
-use Rattle.std.specs.List.{Contains, list_all}
+use Rattle.std.proofs.Common.{◌≡◌, ℕ, true, false, not, ◌||◌, List, Option, Some, None, ◌⊎◌, ⊎_elim, refl, sym, ◌∙◌, subst}
+use Rattle.std.specs.Borrow.{Bor}
+use Rattle.std.specs.List.{Contains}
 use Rattle.std.specs.Bool.{◌==◌}
-use Rattle.std.proofs.lemmas.Bool.{and_parts, eqb-true}
-use Rattle.std.proofs.lemmas.List.Elements.{All-contains}
-use Rattle.std.proofs.lemmas.List.Sums.{AllPass-from_list_all}
 use Rattle.std.specs.Cmp.Lexicographic.{pointwise}
+use Rattle.std.proofs.lemmas.Bool.{or_cases, not-true}
 use Rattle.iam_text.proofs.Exact.{text_exact}
-use Rattle.iam_names.specs.declared.node.NodeName.{NodeName}
-use Rattle.iam_routes.specs.Routes.{RouteLine, colon, lines, path_of, NamesPlace, HasPath, IsOnTable, Reaches}
-use Rattle.iam_routes.specs.Routed.{HasNoColon}
-use Rattle.iam_routes.proofs.Paths.{one_cut, one_node}
+use Rattle.iam_json.specs.declared.route.Line.{Line}
+use Rattle.iam_routes.specs.Places.{ArePartsOf}
+use Rattle.iam_routes.specs.Routed.{pieces_of, same_verb, seen_path, IsPathAt, IsFound}
+use Rattle.iam_routes.specs.Routes.{RouteLine, lines, path_of, IsCut, IsPath, HasPath, IsOnTable, Reaches}
+use Rattle.iam_routes.specs.declared.line.Found.TheVariants.{NoVerb, NoMethod, At}
+use Rattle.iam_routes.specs.declared.table.TablePath.{TablePath}
+use Rattle.iam_routes.proofs.Cutting.{one_cut}
+use Rattle.iam_routes.proofs.Lines.{other_one}
+use Rattle.iam_routes.proofs.Listed.{on_path, lines_apart, lines_told}
+use Rattle.iam_routes.proofs.Segments.{paths_apart, not_both, parts_one}
 
--- a text without this byte
-plain : (text : List ℕ) → list_all (λ b. not (b == colon)) text ≡ true → HasNoColon text
-plain [] t [] back same = cc
-plain [] t (c ∷ front) back same = cc
-plain (b ∷ text) t [] back same =
-    let is : b ≡ colon = cc in
-    let other : not (colon == colon) ≡ true = subst (λ x. not (x == colon) ≡ true) is (and_parts (not (b == colon)) (list_all (λ x. not (x == colon)) text) t).0 in
-    cc other
-plain (b ∷ text) t (c ∷ front) back same =
-    let rest : text ≡ front ++ colon ∷ back = cc in plain text (and_parts (not (b == colon)) (list_all (λ x. not (x == colon)) text) t).1 front back rest
+-- where the path is cut, the line has that verb, and its path is the place's
+cut_as_line : (target place : List ℕ) (verb : Option (List ℕ)) (line : RouteLine) (parts : List (List ℕ)) → IsCut (path_of target) place verb → HasPath line target parts
+    → (line.verb ≡ verb) × IsPath line.path place parts
+cut_as_line target place verb line parts cut path =
+    let same = one_cut (path_of target) path.0 place line.verb verb path.1 cut in
+    (same.1, subst (λ (p : List ℕ). IsPath line.path p parts) same.0 path.2)
 
--- ---- what a test of the table tells
-
-each_line : (p : RouteLine → Bool) → list_all p lines ≡ true → (line : RouteLine) → Contains lines line → p line ≡ true
-each_line p t line there = All-contains (λ l. p l ≡ true) lines line (AllPass-from_list_all p lines t) there
-
-pub verb_is_plain : (line : RouteLine) → Contains lines line → HasNoColon line.verb
-verb_is_plain line there = plain line.verb (each_line (λ l. list_all (λ b. not (b == colon)) l.verb) refl line there)
-
--- two lines with one verb and one method have one number
-abbrev is_told : RouteLine → RouteLine → Bool
-is_told line other = not (pointwise ◌==◌ line.verb other.verb && pointwise ◌==◌ line.method other.method) || line.number == other.number
-
-told_apart : (verbs methods numbers : Bool) → (not (verbs && methods) || numbers) ≡ true → verbs ≡ true → methods ≡ true → numbers ≡ true
-told_apart true true numbers t v m = t
-told_apart true false numbers t v m = cc
-told_apart false methods numbers t v m = cc
-
-lines_told : (line other : RouteLine) → Contains lines line → Contains lines other → line.verb ≡ other.verb → line.method ≡ other.method → line ≡ other
-lines_told line other there also verb method =
-    let of_line = each_line (λ l. list_all (is_told l) lines) refl line there in
-    let of_both = each_line (is_told line) of_line other also in
-    let number = eqb-true line.number other.number (told_apart _ _ _ of_both ((text_exact line.verb other.verb).1 verb) ((text_exact line.method other.method).1 method)) in
-    ap (λ n. record { number = n; method = line.method; verb = line.verb }) number
-    ∙ ap (λ m. record { number = other.number; method = m; verb = line.verb }) method
-    ∙ ap (λ v. record { number = other.number; method = other.method; verb = v }) verb
-
--- where the path is cut, the line has that verb, and the place names that node
-pub cut_as_line : (target place verb : List ℕ) (line : RouteLine) (node : NodeName) → path_of target ≡ place ++ colon ∷ verb → HasNoColon verb
-    → Contains lines line → HasPath line target node → (line.verb ≡ verb) × NamesPlace place node
-cut_as_line target place verb line node cut none there path =
-    let same = one_cut path.0 place line.verb verb (verb_is_plain line there) none (sym path.1 ∙ cut) in
-    (same.1, subst (λ (p : List ℕ). NamesPlace p node) same.0 path.2)
+-- a line whose path the place has is on the path that was found
+only_path : (place : List ℕ) (path : Bor TablePath) (line : RouteLine) (parts : List (List ℕ)) → IsPathAt place (Some path) → Contains lines line → IsPath line.path place parts
+    → Contains (seen_path path.now) line × IsPath (pieces_of path.now) place parts
+only_path place path line parts found there is =
+    let here : Contains (seen_path path.now) line = found.1 line parts there is in
+    (here, subst (λ ps. IsPath ps place parts) (on_path (pieces_of path.now) path.now.lines.now line here) is)
 
 -- ---- what is not on the table
 
-pub no_line_without_colon : (target : List ℕ) → HasNoColon (path_of target) → ¬ (IsOnTable target)
-no_line_without_colon target none on = none on.2.1.0 on.0.verb on.2.1.1
+pub no_line_without_path : (target place : List ℕ) (verb : Option (List ℕ)) → IsCut (path_of target) place verb → IsPathAt place None → ¬ (IsOnTable target)
+no_line_without_path target place verb cut none on =
+    let here = cut_as_line target place verb on.0 on.2.0 cut on.2.1 in
+    none on.0 on.2.0 on.1 here.1
 
-pub no_line_without_node : (target place verb : List ℕ) → path_of target ≡ place ++ colon ∷ verb → HasNoColon verb → ((node : NodeName) → ¬ (NamesPlace place node)) → ¬ (IsOnTable target)
-no_line_without_node target place verb cut none unnamed on =
-    unnamed on.2.0 (cut_as_line target place verb on.0 on.2.0 cut none on.1 on.2.1).1
+pub no_line_without_parts : (target place : List ℕ) (verb : Option (List ℕ)) (path : Bor TablePath) → IsCut (path_of target) place verb → IsPathAt place (Some path)
+    → ArePartsOf (pieces_of path.now) place None → ¬ (IsOnTable target)
+no_line_without_parts target place verb path cut found none on =
+    let here = cut_as_line target place verb on.0 on.2.0 cut on.2.1 in
+    none on.2.0 (only_path place path on.0 on.2.0 found on.1 here.1).1
 
-pub no_line_without_verb : (target place verb : List ℕ) → path_of target ≡ place ++ colon ∷ verb → HasNoColon verb → ((line : RouteLine) → Contains lines line → line.verb ≢ verb) → ¬ (IsOnTable target)
-no_line_without_verb target place verb cut none other on =
-    other on.0 on.1 (cut_as_line target place verb on.0 on.2.0 cut none on.1 on.2.1).0
+pub no_line_without_verb : (target place method : List ℕ) (verb : Option (List ℕ)) (path : Bor TablePath) → IsCut (path_of target) place verb → IsPathAt place (Some path)
+    → IsFound (seen_path path.now) method verb NoVerb → ¬ (IsOnTable target)
+no_line_without_verb target place method verb path cut found none on =
+    let here = cut_as_line target place verb on.0 on.2.0 cut on.2.1 in
+    none on.0 (only_path place path on.0 on.2.0 found on.1 here.1).0 here.0
 
 -- ---- what is on the table
 
--- the line of the cut path
-pub path_as_cut : (target place verb : List ℕ) (line : RouteLine) (node : NodeName) → path_of target ≡ place ++ colon ∷ verb → line.verb ≡ verb → NamesPlace place node → HasPath line target node
-path_as_cut target place verb line node cut same named = (place, cut ∙ ap (λ (v : List ℕ). place ++ colon ∷ v) (sym same), named)
+-- a line of the found path, with the cut verb
+pub path_as_cut : (target place : List ℕ) (verb : Option (List ℕ)) (path : TablePath) (line : RouteLine) (parts : List (List ℕ)) → IsCut (path_of target) place verb → Contains (seen_path path) line
+    → line.verb ≡ verb → IsPath (pieces_of path) place parts → HasPath line target parts
+path_as_cut target place verb path line parts cut there same is =
+    (place, subst (IsCut (path_of target) place) (sym same) cut, subst (λ ps. IsPath ps place parts) (sym (on_path (pieces_of path) path.lines.now line there)) is)
 
-pub no_line_of_method : (method target place verb : List ℕ) → path_of target ≡ place ++ colon ∷ verb → HasNoColon verb
-    → ((line : RouteLine) → Contains lines line → line.verb ≡ verb → line.method ≢ method) → (line : RouteLine) (node : NodeName) → ¬ (Reaches method target line node)
-no_line_of_method method target place verb cut none other line node reaches =
-    other line reaches.on_table (cut_as_line target place verb line node cut none reaches.on_table reaches.path).0 reaches.method_is
+pub on_table_at : (target place method : List ℕ) (verb : Option (List ℕ)) (path : Bor TablePath) (parts : List (List ℕ)) → IsCut (path_of target) place verb → IsPathAt place (Some path)
+    → IsPath (pieces_of path.now) place parts → IsFound (seen_path path.now) method verb NoMethod → IsOnTable target
+on_table_at target place method verb path parts cut found is said =
+    (said.0.0, found.0 said.0.0 said.0.1, (parts, path_as_cut target place verb path.now said.0.0 parts cut said.0.1 said.0.2 is))
 
--- ---- a target reaches one line and one node
+pub no_line_of_method : (target place method : List ℕ) (verb : Option (List ℕ)) (path : Bor TablePath) → IsCut (path_of target) place verb → IsPathAt place (Some path)
+    → IsFound (seen_path path.now) method verb NoMethod → (line : RouteLine) (parts : List (List ℕ)) → ¬ (Reaches method target line parts)
+no_line_of_method target place method verb path cut found said line parts reaches =
+    let here = cut_as_line target place verb line parts cut reaches.path in
+    said.1 line (only_path place path line parts found reaches.on_table here.1).0 here.0 reaches.method_is
 
-pub one_line : (method target : List ℕ) (line other : RouteLine) (node second : NodeName) → Reaches method target line node → Reaches method target other second → (line ≡ other) × (node ≡ second)
-one_line method target line other node second reaches also =
-    let same = cut_as_line target also.path.0 other.verb line node also.path.1 (verb_is_plain other also.on_table) reaches.on_table reaches.path in
-    (lines_told line other reaches.on_table also.on_table same.0 (reaches.method_is ∙ sym also.method_is), one_node also.path.0 node second same.1 also.path.2)
+pub reached : (target place method : List ℕ) (verb : Option (List ℕ)) (path : Bor TablePath) (parts : List (List ℕ)) (which : Line) → IsCut (path_of target) place verb → IsPathAt place (Some path)
+    → IsPath (pieces_of path.now) place parts → IsFound (seen_path path.now) method verb (At which) → (line : RouteLine) × Reaches method target line parts × (line.line ≡ which)
+reached target place method verb path parts which cut found is said = (
+  said.0,
+  record { on_table = found.0 said.0 said.1; method_is = said.3; path = path_as_cut target place verb path.now said.0 parts cut said.1 said.2 is },
+  said.4,
+)
+
+-- ---- a target reaches one line, with its parts
+
+apart_never : (a b : RouteLine) (place : List ℕ) (parts other : List (List ℕ)) → a.verb ≡ b.verb → a.method ≡ b.method → IsPath a.path place parts → IsPath b.path place other
+    → lines_apart a b ≡ true → ⊥
+apart_never a b place parts other verb method here there apart =
+    ⊎_elim
+    (λ (words : (not (same_verb a.verb b.verb) || not (pointwise ◌==◌ a.method b.method)) ≡ true).
+    ⊎_elim
+    (λ (verbs : not (same_verb a.verb b.verb) ≡ true). other_one a.verb b.verb (same_verb a.verb b.verb) refl (not-true (same_verb a.verb b.verb) verbs) verb)
+    (λ (methods : not (pointwise ◌==◌ a.method b.method) ≡ true).
+    let e : true ≡ false = sym ((text_exact a.method b.method).1 method) ∙ not-true (pointwise ◌==◌ a.method b.method) methods in
+    cc e)
+    (or_cases (not (same_verb a.verb b.verb)) (not (pointwise ◌==◌ a.method b.method)) words))
+    (λ (paths : paths_apart a.path b.path ≡ true). not_both a.path b.path place parts other paths here there)
+    (or_cases (not (same_verb a.verb b.verb) || not (pointwise ◌==◌ a.method b.method)) (paths_apart a.path b.path) apart)
+
+same_parts : (a b : RouteLine) (place : List ℕ) (parts other : List (List ℕ)) → a ≡ b → IsPath a.path place parts → IsPath b.path place other → parts ≡ other
+same_parts a b place parts other same here there = parts_one b.path place parts other (subst (λ (l : RouteLine). IsPath l.path place parts) same here) there
+
+pub one_line : (method target : List ℕ) (line other : RouteLine) (parts more : List (List ℕ)) → Reaches method target line parts → Reaches method target other more → (line ≡ other) × (parts ≡ more)
+one_line method target line other parts more reaches also =
+    let here = cut_as_line target also.path.0 other.verb line parts also.path.1 reaches.path in
+    let methods : line.method ≡ other.method = reaches.method_is ∙ sym also.method_is in
+    ⊎_elim
+    (λ (same : line ≡ other). (same, same_parts line other also.path.0 parts more same here.1 also.path.2))
+    (λ (apart : (lines_apart line other ≡ true) ⊎ (lines_apart other line ≡ true)).
+    absurd
+    (⊎_elim
+    (λ (before : lines_apart line other ≡ true). apart_never line other also.path.0 parts more here.0 methods here.1 also.path.2 before)
+    (λ (behind : lines_apart other line ≡ true). apart_never other line also.path.0 more parts (sym here.0) (sym methods) also.path.2 here.1 behind)
+    apart))
+    (lines_told line other reaches.on_table also.on_table)

@@ -1,9 +1,8 @@
 -- What a message alone gives: the first refusal, else the caller and the call.
-use Rattle.std.specs.Prelude.{◌≡◌, Result, Ok, Err}
+use Rattle.std.specs.Prelude.{◌≡◌, ℕ, List, [], Result, Ok, Err}
 use Rattle.iam_names.specs.Caller.{caller_text, IsCaller}
 use Rattle.iam_names.specs.declared.caller.Caller.{Caller}
 use Rattle.iam_names.specs.declared.caller.Caller.TheVariants.{Anonymous}
-use Rattle.iam_names.specs.declared.node.NodeName.{NodeName}
 use Rattle.iam_wire.specs.declared.message.Field.{Field}
 use Rattle.iam_wire.specs.declared.message.Field.TheVariants.{Absent, One, Bad}
 use Rattle.iam_wire.specs.declared.message.Message.{Message}
@@ -27,16 +26,16 @@ NamesCaller Bad caller = ⊥
 
 -- a line of the table has the path and the method
 abbrev pub HasRoute : Message → Type 0
-HasRoute message = (line : RouteLine) × ((node : NodeName) × Reaches message.method message.target line node)
+HasRoute message = (line : RouteLine) × ((parts : List (List ℕ)) × Reaches message.method message.target line parts)
 
 -- the header names a caller
 abbrev pub HasCaller : Message → Type 0
 HasCaller message = (caller : Caller) × NamesCaller message.caller caller
 
--- the body, read as that of the line of the message, gives this
+-- the body, read as that of the line of the message, gives this. No line reads a query yet
 abbrev pub CallGives : Message → Result Call BodyStop → Type 0
 CallGives message said =
-    (line : RouteLine) × ((node : NodeName) × Reaches message.method message.target line node × BodyGives (ReadsLine line.number node) message.body said)
+    (line : RouteLine) × ((parts : List (List ℕ)) × Reaches message.method message.target line parts × BodyGives (ReadsLine line.line parts []) message.body said)
 
 -- the refusals that a message alone gives, in their order
 abbrev pub IsRefused : Message → Details → Type 0

@@ -1,3 +1,5 @@
 pub mod Asked
+pub mod Matched
+pub mod Places
 pub mod Routed
 pub mod Routes

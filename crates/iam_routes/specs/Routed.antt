@@ -1,54 +1,70 @@
--- What the parts of a target say, and the route of a message.
-use Rattle.std.specs.Prelude.{◌≡◌, ◌≢◌, ℕ, List, [], ◌∷◌, ◌++◌, Contains}
+-- The code's table, and the route of a message.
+use Rattle.std.specs.Prelude.{◌≡◌, ◌≢◌, ℕ, ◌<◌, ◌≤◌, Bool, true, false, List, [], map, length, get_or, Contains}
+use Rattle.std.specs.Borrow.{Bor}
+use Rattle.std.specs.Option.{option_map}
+use Rattle.std.specs.Str.{bytes_eq}
 use Rattle.std.specs.declared.option.Option.{Option}
 use Rattle.std.specs.declared.option.Option.TheVariants.{None, Some}
-use Rattle.iam_names.specs.Node.{node_text}
 use Rattle.iam_names.specs.declared.caller.Caller.{Caller}
-use Rattle.iam_names.specs.declared.node.NodeName.{NodeName}
 use Rattle.iam_wire.specs.declared.message.Field.{Field}
 use Rattle.iam_routes.specs.Asked.{NamesCaller}
-use Rattle.iam_routes.specs.Routes.{colon, RouteLine, route_line, NamesPlace, IsOnTable, Reaches}
-use Rattle.iam_routes.specs.declared.line.Line.{Line}
+use Rattle.iam_routes.specs.Places.{seen_piece}
+use Rattle.iam_routes.specs.Routes.{Piece, RouteLine, route_line, lines, IsPath, IsOnTable, Reaches}
 use Rattle.iam_routes.specs.declared.line.Found.{Found}
-use Rattle.iam_routes.specs.declared.line.Found.TheVariants.{NoVerb, NoMethod, Number}
-use Rattle.iam_routes.specs.declared.place.PathParts.{PathParts}
+use Rattle.iam_routes.specs.declared.line.Found.TheVariants.{NoVerb, NoMethod, At}
 use Rattle.iam_routes.specs.declared.route.Routed.{Routed}
-use Rattle.iam_routes.specs.declared.route.Routed.TheVariants.{NoRoute, BadMethod, At}
+use Rattle.iam_routes.specs.declared.route.Routed.TheVariants.{NoRoute, BadMethod, To}
+use Rattle.iam_routes.specs.declared.table.PathLine.{PathLine}
+use Rattle.iam_routes.specs.declared.table.TablePath.{TablePath}
 
--- a line of the program's table
-abbrev pub seen : Line → RouteLine
-seen line = route_line line.number line.method.now line.verb.now
+-- ---- the code's table
 
--- no `:` is in the text
-abbrev pub HasNoColon : List ℕ → Type 0
-HasNoColon text = (front back : List ℕ) → text ≢ front ++ colon ∷ back
+abbrev pub pieces_of : TablePath → List Piece
+pieces_of path = map seen_piece path.pieces.now
 
--- the parts before and behind the last `:`
-abbrev pub IsCut : List ℕ → Option PathParts → Type 0
-IsCut path None = HasNoColon path
-IsCut path (Some parts) = (path ≡ parts.place.now ++ colon ∷ parts.verb.now) × HasNoColon parts.verb.now
+-- a line on a path
+abbrev pub seen_line : List Piece → PathLine → RouteLine
+seen_line pieces line = route_line line.line line.method.now pieces (option_map (λ verb. verb.now) line.verb)
 
--- the text of the node that a place names
-abbrev pub IsNodeAt : List ℕ → Option (List ℕ) → Type 0
-IsNodeAt place None = (node : NodeName) → ¬ (NamesPlace place node)
-IsNodeAt place (Some text) = (node : NodeName) × NamesPlace place node × (text ≡ node_text node)
+-- the lines of a path
+abbrev pub seen_path : TablePath → List RouteLine
+seen_path path = map (seen_line (pieces_of path)) path.lines.now
 
--- what a table has for a verb and a method
-abbrev pub IsFound : List RouteLine → List ℕ → List ℕ → Found → Type 0
-IsFound table method verb NoVerb = (line : RouteLine) → Contains table line → line.verb ≢ verb
-IsFound table method verb NoMethod =
-    ((line : RouteLine) × Contains table line × (line.verb ≡ verb))
-    × ((line : RouteLine) → Contains table line → line.verb ≡ verb → line.method ≢ method)
-IsFound table method verb (Number number) =
-    (line : RouteLine) × Contains table line × (line.verb ≡ verb) × (line.method ≡ method) × (line.number ≡ number)
+-- ---- what is found in it
+
+-- the path at an index, if there is one
+abbrev pub IsPathIn : List TablePath → ℕ → Option (Bor TablePath) → Type 0
+IsPathIn paths place None = length paths ≤ place
+IsPathIn paths place (Some path) = (place < length paths) × (get_or paths place path.now ≡ path.now)
+
+-- the only path of the table that a place can have: its lines are lines of the table, and so are all whose path the place has among them
+abbrev pub IsPathAt : List ℕ → Option (Bor TablePath) → Type 0
+IsPathAt place None = (line : RouteLine) (parts : List (List ℕ)) → Contains lines line → ¬ (IsPath line.path place parts)
+IsPathAt place (Some path) =
+    ((line : RouteLine) → Contains (seen_path path.now) line → Contains lines line)
+    × ((line : RouteLine) (parts : List (List ℕ)) → Contains lines line → IsPath line.path place parts → Contains (seen_path path.now) line)
+
+abbrev pub same_verb : Option (List ℕ) → Option (List ℕ) → Bool
+same_verb None None = true
+same_verb None (Some b) = false
+same_verb (Some a) None = false
+same_verb (Some a) (Some b) = bytes_eq a b
+
+-- what lines have for a verb and a method
+abbrev pub IsFound : List RouteLine → List ℕ → Option (List ℕ) → Found → Type 0
+IsFound lines method verb NoVerb = (line : RouteLine) → Contains lines line → line.verb ≢ verb
+IsFound lines method verb NoMethod =
+    ((line : RouteLine) × Contains lines line × (line.verb ≡ verb))
+    × ((line : RouteLine) → Contains lines line → line.verb ≡ verb → line.method ≢ method)
+IsFound lines method verb (At which) =
+    (line : RouteLine) × Contains lines line × (line.verb ≡ verb) × (line.method ≡ method) × (line.line ≡ which)
 
 -- the route of a method and a target, or the refusal
 abbrev pub IsRouted : List ℕ → List ℕ → Routed → Type 0
 IsRouted method target NoRoute = ¬ (IsOnTable target)
-IsRouted method target BadMethod = IsOnTable target × ((line : RouteLine) (node : NodeName) → ¬ (Reaches method target line node))
-IsRouted method target (At route) =
-    (line : RouteLine) × ((node : NodeName) × Reaches method target line node
-    × (route.number ≡ line.number) × (route.parts ≡ node_text node ∷ []))
+IsRouted method target BadMethod = IsOnTable target × ((line : RouteLine) (parts : List (List ℕ)) → ¬ (Reaches method target line parts))
+IsRouted method target (To route) =
+    (line : RouteLine) × Reaches method target line route.parts × (line.line ≡ route.line) × (route.pairs ≡ [])
 
 -- the caller that the header names
 abbrev pub IsCallerOf : Field → Option Caller → Type 0

@@ -1,26 +1,46 @@
 -- The route table, as far as it is answered, and the paths of its lines.
-use Rattle.std.specs.Prelude.{◌≡◌, ℕ, ◌==◌, List, [], ◌∷◌, ◌++◌, Contains, codes}
-use Rattle.std.specs.List.{before_first, after_first}
+use Rattle.std.specs.Prelude.{◌≡◌, ◌≢◌, ℕ, ◌==◌, List, [], ◌∷◌, ◌++◌, Contains, IsTrue, codes}
+use Rattle.std.specs.Char.{is_ascii_alphabetic}
+use Rattle.std.specs.List.{before_first, list_all}
+use Rattle.std.specs.declared.option.Option.{Option}
+use Rattle.std.specs.declared.option.Option.TheVariants.{None, Some}
 use Rattle.percent_encoding.specs.Percent.{percent_decode}
-use Rattle.iam_names.specs.Node.{IsNodeName, node_text}
+use Rattle.iam_names.specs.Node.{collection_of, IsNodeName, node_text}
+use Rattle.iam_names.specs.declared.node.NodeKind.{NodeKind}
+use Rattle.iam_names.specs.declared.node.NodeKind.TheVariants.{Organization}
 use Rattle.iam_names.specs.declared.node.NodeName.{NodeName}
+use Rattle.iam_json.specs.declared.route.Line.{Line}
+use Rattle.iam_json.specs.declared.route.Line.TheVariants.{TestPermissions, ReadPolicy, SetPolicy}
 
--- a line of the table, METHOD /v3/{node}:VERB; a verb is letters alone
+-- ---- the table
+
+-- a segment of a line's path: one that stands as it is, or a parameter, which is percent-decoded: what follows a collection in the name of a node
+pub data Piece : Type 0 where
+  fixed : List ℕ → Piece
+  node_in : NodeKind → Piece
+
+-- a line of the table: its method, its path, and the verb behind it, if it has one
 pub record RouteLine : Type 0 where
-  pub number : ℕ
+  pub line : Line
   pub method : List ℕ
-  pub verb : List ℕ
+  pub path : List Piece
+  pub verb : Option (List ℕ)
 
-abbrev pub route_line : ℕ → List ℕ → List ℕ → RouteLine
-route_line number method verb = record { number = number; method = method; verb = verb }
+abbrev pub route_line : Line → List ℕ → List Piece → Option (List ℕ) → RouteLine
+route_line line method path verb = record { line = line; method = method; path = path; verb = verb }
 
--- POST /v3/{node}:testIamPermissions, POST /v3/{node}:getIamPolicy and POST /v3/{node}:setIamPolicy
-abbrev pub lines : List RouteLine
+-- `/v3/organizations/N`: `/v3/{node}`, as far as nodes are named
+abbrev pub organization_path : List Piece
+organization_path = fixed (codes "v3") ∷ fixed (codes "organizations") ∷ node_in Organization ∷ []
+
+unfoldable pub lines : List RouteLine
 lines =
-    route_line 1 (codes "POST") (codes "testIamPermissions")
-    ∷ route_line 2 (codes "POST") (codes "getIamPolicy")
-    ∷ route_line 3 (codes "POST") (codes "setIamPolicy")
+    route_line TestPermissions (codes "POST") organization_path (Some (codes "testIamPermissions"))
+    ∷ route_line ReadPolicy (codes "POST") organization_path (Some (codes "getIamPolicy"))
+    ∷ route_line SetPolicy (codes "POST") organization_path (Some (codes "setIamPolicy"))
     ∷ []
+
+-- ---- the path of a target
 
 abbrev pub question_mark : ℕ
 question_mark = 63
@@ -35,24 +55,55 @@ colon = 58
 abbrev pub path_of : List ℕ → List ℕ
 path_of target = before_first (λ byte. byte == question_mark) target
 
--- a name in a path: its collection stands as it is, and what follows it is percent-decoded
-abbrev pub decoded_name : List ℕ → List ℕ
-decoded_name name = before_first (λ byte. byte == slash) name ++ codes "/" ++ percent_decode (after_first (λ byte. byte == slash) name)
+-- a verb is letters alone
+abbrev pub IsVerb : List ℕ → Type 0
+IsVerb text = (text ≢ []) × IsTrue (list_all is_ascii_alphabetic text)
 
--- `/v3/{node}`. What follows the collection is one segment, since no name has a second `/`
-abbrev pub NamesPlace : List ℕ → NodeName → Type 0
-NamesPlace place node = (name : List ℕ) × (place ≡ codes "/v3/" ++ name) × IsNodeName node × (node_text node ≡ decoded_name name)
+-- A path is a place and its verb: it is cut at the last `:`, if letters alone follow. So no part of a segment before the last is one.
+abbrev pub IsCut : List ℕ → List ℕ → Option (List ℕ) → Type 0
+IsCut path place (Some verb) = IsVerb verb × (path ≡ place ++ colon ∷ verb)
+IsCut path place None = (path ≡ place) × ((front verb : List ℕ) → IsVerb verb → path ≢ front ++ colon ∷ verb)
 
--- the path of the target is that of the line, with its verb behind the last `:`, and names that node
-abbrev pub HasPath : RouteLine → List ℕ → NodeName → Type 0
-HasPath line target node = (place : List ℕ) × (path_of target ≡ place ++ colon ∷ line.verb) × NamesPlace place node
+-- the byte isn't in the text
+abbrev pub Lacks : ℕ → List ℕ → Type 0
+Lacks byte text = (front back : List ℕ) → text ≢ front ++ byte ∷ back
+
+-- a segment is percent-decoded behind a collection, and this is the name of a node
+abbrev pub Names : NodeKind → List ℕ → List ℕ → Type 0
+Names kind segment part =
+    (node : NodeName) × IsNodeName node × (part ≡ node_text node) × (part ≡ collection_of kind ++ percent_decode segment)
+
+-- what a piece gives of a segment: nothing where it stands as it is, and its part where it is a parameter
+abbrev pub Gives : Piece → List ℕ → List (List ℕ) → Type 0
+Gives (fixed text) segment given = (segment ≡ text) × (given ≡ [])
+Gives (node_in kind) segment given = (part : List ℕ) × Names kind segment part × (given ≡ part ∷ [])
+
+-- the place begins with a `/` and a segment for the piece
+pub record BeginsWith (piece : Piece) (place rest : List ℕ) (given : List (List ℕ)) : Type 0 where
+  pub segment : List ℕ
+  pub whole : place ≡ slash ∷ segment ++ rest
+  pub plain : Lacks slash segment
+  pub gives : Gives piece segment given
+
+-- the place is a segment for each piece, each behind a `/`, and these give the parts
+abbrev pub IsPath : List Piece → List ℕ → List (List ℕ) → Type 0
+IsPath [] place parts = (place ≡ []) × (parts ≡ [])
+IsPath (piece ∷ pieces) place parts =
+    (rest : List ℕ) × (given : List (List ℕ)) × (more : List (List ℕ)) × BeginsWith piece place rest given × (parts ≡ given ++ more)
+    × IsPath pieces rest more
+
+-- ---- the lines of a target
+
+-- the path of the target is that of the line, with its verb, and its parameters give these parts
+abbrev pub HasPath : RouteLine → List ℕ → List (List ℕ) → Type 0
+HasPath line target parts = (place : List ℕ) × IsCut (path_of target) place line.verb × IsPath line.path place parts
 
 -- a line of the table has the path
 abbrev pub IsOnTable : List ℕ → Type 0
-IsOnTable target = (line : RouteLine) × Contains lines line × ((node : NodeName) × HasPath line target node)
+IsOnTable target = (line : RouteLine) × Contains lines line × ((parts : List (List ℕ)) × HasPath line target parts)
 
--- that line has the method and the path, which names that node
-pub record Reaches (method target : List ℕ) (line : RouteLine) (node : NodeName) : Type 0 where
+-- that line has the method and the path, whose parameters give these parts
+pub record Reaches (method target : List ℕ) (line : RouteLine) (parts : List (List ℕ)) : Type 0 where
   pub on_table : Contains lines line
   pub method_is : line.method ≡ method
-  pub path : HasPath line target node
+  pub path : HasPath line target parts

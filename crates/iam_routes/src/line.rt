@@ -1,51 +1,43 @@
-// The lines of the route table.
-ghost use Rattle.std.specs.Prelude.{map};
-ghost use Rattle.iam_routes.specs.Routed.{seen, IsFound};
+// The line of a path that has a method and a verb.
+ghost use Rattle.std.specs.Prelude.{◌≡◌, List, map};
+ghost use Rattle.std.specs.Option.{option_map};
+ghost use Rattle.iam_routes.specs.Routes.{Piece};
+ghost use Rattle.iam_routes.specs.Routed.{same_verb as verbs_are_same, seen_line, IsFound};
 
-/// A line of the route table, `METHOD /v3/{node}:VERB`.
-#[derive(Clone, Copy)]
-pub struct Line {
-    pub number: u16,
-    pub method: &'static str,
-    pub verb: &'static str,
-}
+use crate::table::PathLine;
+use iam_json::Line;
 
-/// The lines that are answered.
-pub static LINES: [Line; 3] = [
-    Line {
-        number: 1,
-        method: "POST",
-        verb: "testIamPermissions",
-    },
-    Line {
-        number: 2,
-        method: "POST",
-        verb: "getIamPolicy",
-    },
-    Line {
-        number: 3,
-        method: "POST",
-        verb: "setIamPolicy",
-    },
-];
-
-/// What a table has for a verb and a method.
+/// What the lines of a path have for a verb and a method.
 #[derive(Clone, Copy)]
 pub enum Found {
     NoVerb,
     NoMethod,
-    Number(u16),
+    At(Line),
 }
 
-/// The number of the line that has the verb and the method.
-pub fn line_of(lines: &[Line], method: &str, verb: &str) -> Found
-    ensures { IsFound (map seen lines.now) method.now verb.now result }
+fn same_verb(a: Option<&str>, b: Option<&str>) -> bool
+    ensures { result ≡ verbs_are_same (option_map (λ verb. verb.now) a.entry) (option_map (λ verb. verb.now) b.entry) }
+{
+    match a {
+        None => match b {
+            None => true,
+            Some(_) => false,
+        },
+        Some(first) => match b {
+            None => false,
+            Some(second) => first == second,
+        },
+    }
+}
+
+pub fn line_of(lines: &[PathLine], method: &str, verb: Option<&str>) -> Found
+    ensures { (pieces : List Piece) → IsFound (map (seen_line pieces) lines.now) method.now (option_map (λ text. text.now) verb.entry) result }
 {
     let mut found = Found::NoVerb;
     for line in lines {
-        if line.verb == verb {
+        if same_verb(line.verb, verb) {
             if line.method == method {
-                return Found::Number(line.number);
+                return Found::At(line.line);
             }
             found = Found::NoMethod;
         }

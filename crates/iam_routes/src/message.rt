@@ -7,6 +7,7 @@ ghost use Rattle.iam_routes.specs.Routed.{IsRouted};
 use crate::caller::caller_of;
 use crate::given::Asked;
 use crate::route::{Routed, route_of};
+use crate::routes::Routes;
 use iam_json::{BodyStop, Details, ErrorReply, Route, read_call};
 use iam_names::Caller;
 use iam_text::OutOfMemory;
@@ -26,7 +27,7 @@ fn call_of(
     caller: Caller,
     message: &Message,
 ) -> Result<Asked, OutOfMemory>
-    requires route { IsRouted message.now.method message.now.target (Routed.At route.now) }
+    requires route { IsRouted message.now.method message.now.target (Routed.To route.now) }
     requires caller { NamesCaller message.now.caller caller }
     ensures { IfOk result (IsAsked message.now) }
 {
@@ -39,14 +40,15 @@ fn call_of(
 }
 
 /// What a message asks for, or why it is refused: its path, its method, its caller and its body are looked at in
-/// this order. A query behind the path isn't looked at, since no line reads one.
-pub fn asked(alloc: Global, message: &Message) -> Result<Asked, OutOfMemory>
+/// this order. A query behind the path isn't looked at, since no line reads one yet.
+pub fn asked(alloc: Global, message: &Message, routes: &Routes) -> Result<Asked, OutOfMemory>
     ensures { IfOk result (IsAsked message.now) }
 {
-    let route = match route_of(alloc, message.method.as_str(), message.target.as_str())? {
+    let (method, target) = (message.method.as_str(), message.target.as_str());
+    let route = match route_of(alloc, routes, method, target)? {
         Routed::NoRoute => return Ok(refused(Details::NoRoute)),
         Routed::BadMethod => return Ok(refused(Details::BadMethod)),
-        Routed::At(route) => route,
+        Routed::To(route) => route,
     };
     let Some(caller) = caller_of(alloc, &message.caller)? else {
         return Ok(refused(Details::BadCaller));

@@ -2,8 +2,10 @@
 ghost use Rattle.std.specs.Prelude.{IfOk};
 ghost use Rattle.iam_routes.specs.Routed.{IsRouted};
 
-use crate::line::{Found, LINES, line_of};
-use crate::place::{cut, node_at, path_of};
+use crate::line::{Found, line_of};
+use crate::parts::parts_of;
+use crate::routes::Routes;
+use crate::target::{cut, path_of};
 use iam_json::Route;
 use iam_text::{List, OutOfMemory};
 use std::alloc::Global;
@@ -13,29 +15,31 @@ use std::alloc::Global;
 pub enum Routed {
     NoRoute,
     BadMethod,
-    At(Route),
+    To(Route),
 }
 
-pub fn route_of(alloc: Global, method: &str, target: &str) -> Result<Routed, OutOfMemory>
+pub fn route_of(
+    alloc: Global,
+    routes: &Routes,
+    method: &str,
+    target: &str,
+) -> Result<Routed, OutOfMemory>
     ensures { IfOk result (IsRouted method.now target.now) }
 {
-    let Some(parts) = cut(path_of(target)) else {
+    let at = cut(path_of(target));
+    let Some(path) = routes.path_at(at.place) else {
         return Ok(Routed::NoRoute);
     };
-    let Some(node) = node_at(alloc, parts.place)? else {
+    let Some(parts) = parts_of(alloc, path.pieces, at.place)? else {
         return Ok(Routed::NoRoute);
     };
-    match line_of(&LINES, method, parts.verb) {
+    match line_of(path.lines, method, at.verb) {
         Found::NoVerb => Ok(Routed::NoRoute),
         Found::NoMethod => Ok(Routed::BadMethod),
-        Found::Number(number) => {
-            let mut parts = List::new(alloc);
-            parts.push(node)?;
-            Ok(Routed::At(Route {
-                number,
-                parts,
-                pairs: List::new(alloc),
-            }))
-        }
+        Found::At(line) => Ok(Routed::To(Route {
+            line,
+            parts,
+            pairs: List::new(alloc),
+        })),
     }
 }

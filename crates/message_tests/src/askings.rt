@@ -1,9 +1,8 @@
 // What messages ask for, and what is refused of them.
-use crate::let_go;
 use iam_json::{Call, Details, ErrorReply, answer_body};
 use iam_names::NodeName;
-use iam_routes::{Asked, asked};
-use iam_text::{List, OutOfMemory, Text};
+use iam_routes::{Asked, Routes, asked};
+use iam_text::{List, OutOfMemory, Text, let_go};
 use iam_types::{Answer, Ask, Binding, Command};
 use iam_wire::{Field, Message};
 use std::alloc::Global;
@@ -170,7 +169,7 @@ static BODIES: [(&str, &[u8], &str); 17] = [
 ];
 
 /// Targets, and whether they are those of the test of permissions on organisation 1000.
-static TARGETS: [(&str, bool); 26] = [
+static TARGETS: [(&str, bool); 34] = [
     ("/v3/organizations/1000:testIamPermissions?x=:y/z?", true),
     ("/v3/organizations/%31%30%300:testIamPermissions", true),
     ("/v3/organizations/1000:setIamPolicy", false),
@@ -200,6 +199,31 @@ static TARGETS: [(&str, bool); 26] = [
     ("/v3//organizations/1000:testIamPermissions", false),
     ("v3/organizations/1000:testIamPermissions", false),
     ("http://a/v3/organizations/1000:testIamPermissions", false),
+    ("/v3/organizations/1000:x:testIamPermissions", false),
+    ("/v3/organizations/1000::testIamPermissions", false),
+    ("/v3/organizations/1000:test1IamPermissions", false),
+    ("/v3/organizations/{part}:testIamPermissions", false),
+    ("/v3/organizations/%31%3A:testIamPermissions", false),
+    ("/v3:testIamPermissions/organizations/1000", false),
+    (":testIamPermissions", false),
+    ("", false),
+];
+
+/// Methods and targets, and the number of the refusal, which comes before that of the caller. A line of another verb or
+/// none isn't one of the path.
+static METHODS: [(&str, &str, &str); 12] = [
+    ("GET", TEST, "5"),
+    ("DELETE", READ, "5"),
+    ("PATCH", SET, "5"),
+    ("", SET, "5"),
+    ("POST ", SET, "5"),
+    ("GET", "/v3/organizations/%31000:getIamPolicy?parent=x", "5"),
+    ("GET", "/v3/organizations/1000", "4"),
+    ("GET", "/v3/organizations/1000:", "4"),
+    ("GET", "/v3/organizations/1000:move", "4"),
+    ("GET", "/v3/organizations/0:getIamPolicy", "4"),
+    ("GET", "/v3/organizations/1000/x:getIamPolicy", "4"),
+    ("POST", SET, "8"),
 ];
 
 fn field_of(alloc: Global, header: Header) -> Result<Field, OutOfMemory> {
@@ -228,9 +252,9 @@ fn message_of(alloc: Global, request: Request) -> Result<Message, OutOfMemory> {
     })
 }
 
-fn asked_by(alloc: Global, request: Request) -> Result<Asked, OutOfMemory> {
+fn asked_by(alloc: Global, routes: &Routes, request: Request) -> Result<Asked, OutOfMemory> {
     let message = message_of(alloc, request)?;
-    asked(alloc, &message)
+    asked(alloc, &message, routes)
 }
 
 // The number of a refusal, and the path of a bad member.
@@ -323,8 +347,8 @@ fn asked_text(alloc: Global, asked: &Asked) -> Result<Text, OutOfMemory> {
     }
 }
 
-fn said_by(alloc: Global, request: Request) -> Result<Text, OutOfMemory> {
-    let asked = asked_by(alloc, request)?;
+fn said_by(alloc: Global, routes: &Routes, request: Request) -> Result<Text, OutOfMemory> {
+    let asked = asked_by(alloc, routes, request)?;
     let said = asked_text(alloc, &asked);
     let_go(asked);
     said
@@ -333,31 +357,39 @@ fn said_by(alloc: Global, request: Request) -> Result<Text, OutOfMemory> {
 fn assert_said(
     rt: &impl Abort,
     alloc: Global,
+    routes: &Routes,
     request: Request,
     wanted: &str,
 ) -> Result<(), OutOfMemory> {
-    assert_eq!(rt; said_by(alloc, request)?.as_str(), wanted);
+    assert_eq!(rt; said_by(alloc, routes, request)?.as_str(), wanted);
     Ok(())
 }
 
 #[test]
 fn what_is_asked(rt: HostRuntime) -> Result<(), Fail> {
+    let routes = Routes::new(rt.alloc())?;
     for (request, wanted) in &CASES {
-        assert_said(&rt, rt.alloc(), *request, wanted)?;
+        assert_said(&rt, rt.alloc(), &routes, *request, wanted)?;
     }
     Ok(())
 }
 
 #[test]
 fn what_bodies_ask_for(rt: HostRuntime) -> Result<(), Fail> {
+    let routes = Routes::new(rt.alloc())?;
     for (target, body, wanted) in &BODIES {
-        assert_said(&rt, rt.alloc(), ("POST", *target, ADA, *body), wanted)?;
+        let request = ("POST", *target, ADA, *body);
+        assert_said(&rt, rt.alloc(), &routes, request, wanted)?;
     }
     Ok(())
 }
 
-fn reaches_the_test(alloc: Global, target: &'static str) -> Result<bool, OutOfMemory> {
-    let said = said_by(alloc, ("POST", target, ADA, TWO))?;
+fn reaches_the_test(
+    alloc: Global,
+    routes: &Routes,
+    target: &'static str,
+) -> Result<bool, OutOfMemory> {
+    let said = said_by(alloc, routes, ("POST", target, ADA, TWO))?;
     Ok(
         said.as_str()
             == r#"user:ada@example.com tests organizations/1000 {"permissions":["a.b.c","d.e.f"]}"#,
@@ -366,8 +398,19 @@ fn reaches_the_test(alloc: Global, target: &'static str) -> Result<bool, OutOfMe
 
 #[test]
 fn targets(rt: HostRuntime) -> Result<(), Fail> {
+    let routes = Routes::new(rt.alloc())?;
     for (target, reached) in &TARGETS {
-        assert_eq!(rt; reaches_the_test(rt.alloc(), target)?, *reached);
+        assert_eq!(rt; reaches_the_test(rt.alloc(), &routes, target)?, *reached);
+    }
+    Ok(())
+}
+
+#[test]
+fn methods(rt: HostRuntime) -> Result<(), Fail> {
+    let routes = Routes::new(rt.alloc())?;
+    for (method, target, wanted) in &METHODS {
+        let request = (*method, *target, Header::One("bob"), TWO);
+        assert_said(&rt, rt.alloc(), &routes, request, wanted)?;
     }
     Ok(())
 }

@@ -1,8 +1,7 @@
 // The code and the body of each refusal, and the names of limits and faults.
-use crate::let_go;
 use iam_json::{Details, ErrorReply, answer_body, code_of, error_body, refusal_code};
 use iam_names::{PermissionName, RoleName};
-use iam_text::{OutOfMemory, Text};
+use iam_text::{OutOfMemory, Text, let_go};
 use iam_types::{Answer, Fault, LimitName, Refusal};
 use std::alloc::Global;
 use std::test::Fail;

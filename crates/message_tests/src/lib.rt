@@ -11,7 +11,3 @@ mod bodies;
 mod messages;
 #[cfg(test)]
 mod values;
-
-/// Lets a value go. Where a value of many cases is let go by a call, the proof of the caller doesn't look into them.
-#[cfg(test)]
-fn let_go<T: Drop>(_value: T) {}

@@ -1,6 +1,9 @@
 use Rattle.std.proofs.Common.{Ok}
-use Rattle.iam_routes.proofs.Calls.{given_on_line}
+use Rattle.iam_routes.proofs.Calls.{route_is, given_on_line}
 use Rattle.iam_routes.proofs.message.call_of.Goals as goal
+
+pub read_call-requires : goal.read_call-requires
+read_call-requires c = route_is c.args.message.now.method c.args.message.now.target c.args.route.now c.requires.route
 
 pub returns-in-Ok : goal.returns-in-Ok
 returns-in-Ok c =

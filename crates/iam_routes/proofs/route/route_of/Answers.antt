@@ -1,21 +1,35 @@
-use Rattle.std.proofs.Common.{sym, ◌∙◌}
-use Rattle.iam_routes.proofs.Targets.{no_line_without_node, no_line_without_verb, no_line_of_method, path_as_cut}
+use Rattle.iam_routes.specs.Routed.{pieces_of}
+use Rattle.iam_routes.proofs.Targets.{no_line_without_path, no_line_without_parts, no_line_without_verb, no_line_of_method, on_table_at, reached}
 use Rattle.iam_routes.proofs.route.route_of.Goals as goal
+
+pub returns-in_default : goal.returns-in_default
+returns-in_default c =
+    let cut = rw c.path_of.ensures at c.cut-at.ensures in
+    no_line_without_path c.args.target.now c.cut-at.result.place.now _ cut c.in_default.ensures
 
 pub returns-in_default-2 : goal.returns-in_default-2
 returns-in_default-2 c =
-    let named = rw c.in_default-2.is at c.in_ok-node.ensures in
-    no_line_without_node c.args.target.now c.in-Some.parts.place.now c.in-Some.parts.verb.now (sym c.path_of.ensures ∙ c.in-Some.ensures.0) c.in-Some.ensures.1 named
+    let cut = rw c.path_of.ensures at c.cut-at.ensures in
+    let none = rw c.in_default-2.is at c.in_ok-parts.ensures in
+    no_line_without_parts c.args.target.now c.cut-at.result.place.now _ c.in-Some.path cut c.in-Some.ensures none
 
 pub returns-in-NoVerb : goal.returns-in-NoVerb
 returns-in-NoVerb c =
-    no_line_without_verb c.args.target.now c.in-Some.parts.place.now c.in-Some.parts.verb.now (sym c.path_of.ensures ∙ c.in-Some.ensures.0) c.in-Some.ensures.1 c.in-NoVerb.ensures
+    let cut = rw c.path_of.ensures at c.cut-at.ensures in
+    no_line_without_verb c.args.target.now c.cut-at.result.place.now c.args.method.now _ c.in-Some.path cut c.in-Some.ensures (c.in-NoVerb.ensures (pieces_of c.in-Some.path.now))
 
 pub returns-in-NoMethod : goal.returns-in-NoMethod
 returns-in-NoMethod c =
-    let cut = sym c.path_of.ensures ∙ c.in-Some.ensures.0 in
-    let node = rw c.in-Some-2.is at c.in_ok-node.ensures in
-    let found = c.in-NoMethod.ensures in (
-      (found.0.0, found.0.1, (node.0, path_as_cut c.args.target.now c.in-Some.parts.place.now c.in-Some.parts.verb.now found.0.0 node.0 cut found.0.2 node.1)),
-      no_line_of_method c.args.method.now c.args.target.now c.in-Some.parts.place.now c.in-Some.parts.verb.now cut c.in-Some.ensures.1 found.1,
+    let cut = rw c.path_of.ensures at c.cut-at.ensures in
+    let parts = rw c.in-Some-2.is at c.in_ok-parts.ensures in
+    let said = c.in-NoMethod.ensures (pieces_of c.in-Some.path.now) in (
+      on_table_at c.args.target.now c.cut-at.result.place.now c.args.method.now _ c.in-Some.path c.in-Some-2.parts cut c.in-Some.ensures parts said,
+      no_line_of_method c.args.target.now c.cut-at.result.place.now c.args.method.now _ c.in-Some.path cut c.in-Some.ensures said,
     )
+
+pub returns-in-At : goal.returns-in-At
+returns-in-At c =
+    let cut = rw c.path_of.ensures at c.cut-at.ensures in
+    let parts = rw c.in-Some-2.is at c.in_ok-parts.ensures in
+    let line = reached c.args.target.now c.cut-at.result.place.now c.args.method.now _ c.in-Some.path c.in-Some-2.parts c.in-At.line cut c.in-Some.ensures parts (c.in-At.ensures (pieces_of c.in-Some.path.now)) in
+    (line.0, line.1, line.2, c.new.ensures)

@@ -1,0 +1,134 @@
+-- The lines of the definition and the code's table, and what a line of the table has.
+use Rattle.std.proofs.Common.{◌≡◌, ℕ, zero, suc, ◌<◌, Bool, true, not, ◌&&◌, ◌||◌, List, [], ◌∷◌, ◌++◌, map, length, get_or, codes, Some, inl, inr, ◌⊎◌, ⊎_elim, refl, sym, ap, ◌∙◌, subst, arith}
+use Rattle.std.specs.List.{Contains, list_all, flat_map}
+use Rattle.std.specs.Bool.{◌==◌}
+use Rattle.std.specs.Cmp.Lexicographic.{pointwise}
+use Rattle.std.proofs.lemmas.Bool.{and_parts}
+use Rattle.std.proofs.lemmas.List.Concat.{flat_map-cons}
+use Rattle.std.proofs.lemmas.List.Elements.{All-cons, All-nil, All-contains, Contains-append_cases, Contains-append_left, Contains-append_right}
+use Rattle.std.proofs.lemmas.List.Sums.{AllPass-from_list_all}
+use Rattle.iam_names.specs.declared.node.NodeName.{NodeName}
+use Rattle.iam_json.specs.Calls.{HasParts, NamesNode}
+use Rattle.iam_routes.specs.Matched.{IsTable}
+use Rattle.iam_routes.specs.Routed.{pieces_of, same_verb, seen_line, seen_path}
+use Rattle.iam_json.specs.declared.route.Line.TheVariants.{TestPermissions, ReadPolicy, SetPolicy}
+use Rattle.iam_routes.specs.Routes.{Piece, RouteLine, route_line, lines, organization_path, IsPath}
+use Rattle.iam_routes.specs.declared.table.PathLine.{PathLine}
+use Rattle.iam_routes.specs.declared.table.TablePath.{TablePath}
+use Rattle.iam_routes.proofs.Segments.{paths_apart}
+
+-- ---- elements of lists
+
+in_front : {A : Type 0} (x y : A) (xs : List A) → x ≡ y → Contains (x ∷ xs) y
+in_front x y xs same = (0, omega arith, same)
+
+in_rest : {A : Type 0} (x y : A) (xs : List A) → Contains xs y → Contains (x ∷ xs) y
+in_rest x y xs there = let within : there.0 < length xs = there.1 in (suc there.0, omega arith, there.2)
+
+nothing_in : {A B : Type 0} (y : A) → Contains [] y → B
+nothing_in y there = let within : there.0 < 0 = there.1 in absurd (omega arith)
+
+at_place : {A : Type 0} (x y : A) (xs : List A) (k : ℕ) → k < length (x ∷ xs) → get_or (x ∷ xs) k y ≡ y → (x ≡ y) ⊎ Contains xs y
+at_place x y xs zero within is = inl is
+at_place x y xs (suc k) within is = inr (k, omega arith, is)
+
+first_or_rest : {A : Type 0} (x y : A) (xs : List A) → Contains (x ∷ xs) y → (x ≡ y) ⊎ Contains xs y
+first_or_rest x y xs there = at_place x y xs there.0 there.1 there.2
+
+flat_there : {A B : Type 0} (f : A → List B) (xs : List A) (y : B) → Contains (flat_map f xs) y → (x : A) × Contains xs x × Contains (f x) y
+flat_there f [] y there = nothing_in y there
+flat_there f (x ∷ xs) y there =
+    ⊎_elim
+    (λ (here : Contains (f x) y). (x, in_front x x xs refl, here))
+    (λ (more : Contains (flat_map f xs) y). let found = flat_there f xs y more in (found.0, in_rest x found.0 xs found.1, found.2))
+    (Contains-append_cases (f x) (flat_map f xs) y (subst (λ l. Contains l y) (flat_map-cons f x xs) there))
+
+flat_from : {A B : Type 0} (f : A → List B) (xs : List A) (x : A) (y : B) → Contains xs x → Contains (f x) y → Contains (flat_map f xs) y
+flat_from f [] x y there here = nothing_in x there
+flat_from f (z ∷ xs) x y there here =
+    subst (λ l. Contains l y) (sym (flat_map-cons f z xs))
+    (⊎_elim
+    (λ (same : z ≡ x). Contains-append_left (f z) (flat_map f xs) y (subst (λ w. Contains (f w) y) (sym same) here))
+    (λ (more : Contains xs x). Contains-append_right (f z) (flat_map f xs) y (flat_from f xs x y more here))
+    (first_or_rest z x xs there))
+
+-- ---- the code's table
+
+pub on_path : (pieces : List Piece) (ls : List PathLine) (line : RouteLine) → Contains (map (seen_line pieces) ls) line → line.path ≡ pieces
+on_path pieces [] line there = nothing_in line there
+on_path pieces (l ∷ ls) line there =
+    ⊎_elim
+    (λ (same : seen_line pieces l ≡ line). sym (ap (λ (x : RouteLine). x.path) same))
+    (λ (more : Contains (map (seen_line pieces) ls) line). on_path pieces ls line more)
+    (first_or_rest (seen_line pieces l) line (map (seen_line pieces) ls) there)
+
+-- a line of the definition stands on a path of the code's table
+pub line_listed : (paths : List TablePath) (line : RouteLine) → IsTable paths → Contains lines line → (path : TablePath) × Contains paths path × Contains (seen_path path) line × (line.path ≡ pieces_of path)
+line_listed paths line table there =
+    let found = flat_there seen_path paths line (subst (λ l. Contains l line) (sym table.lines_are) there) in
+    (found.0, found.1, found.2, on_path (pieces_of found.0) found.0.lines.now line found.2)
+
+pub listed_line : (paths : List TablePath) (path : TablePath) (line : RouteLine) → IsTable paths → Contains paths path → Contains (seen_path path) line → Contains lines line
+listed_line paths path line table there here = subst (λ l. Contains l line) table.lines_are (flat_from seen_path paths path line there here)
+
+-- ---- the parts of a line
+
+organization_parts : (place : List ℕ) (parts : List (List ℕ)) → IsPath organization_path place parts → (node : NodeName) × NamesNode parts node
+organization_parts place parts first =
+    let second = first.5 in
+    let third = second.5 in
+    let named = third.3.gives in
+    let last = third.5 in
+    let all : parts ≡ named.0 ∷ [] =
+    first.4 ∙ ap (λ g. g ++ first.2) first.3.gives.1 ∙ second.4 ∙ ap (λ g. g ++ second.2) second.3.gives.1 ∙ third.4
+    ∙ ap (λ g. g ++ third.2) named.2 ∙ ap (λ m. named.0 ∷ m) last.1
+    in
+    (named.1.0, (named.1.1, all ∙ ap (λ p. p ∷ []) named.1.2))
+
+abbrev GivesParts : RouteLine → Type 0
+GivesParts line = (place : List ℕ) (parts : List (List ℕ)) → IsPath line.path place parts → HasParts line.line parts
+
+pub has_parts : (line : RouteLine) → Contains lines line → GivesParts line
+unfolding lines
+has_parts line there =
+    let test : RouteLine = route_line TestPermissions (codes "POST") organization_path (Some (codes "testIamPermissions")) in
+    let read : RouteLine = route_line ReadPolicy (codes "POST") organization_path (Some (codes "getIamPolicy")) in
+    let set : RouteLine = route_line SetPolicy (codes "POST") organization_path (Some (codes "setIamPolicy")) in
+    All-contains GivesParts lines line
+    (All-cons GivesParts test (read ∷ set ∷ []) organization_parts
+    (All-cons GivesParts read (set ∷ []) organization_parts
+    (All-cons GivesParts set [] organization_parts (All-nil GivesParts))))
+    there
+
+-- ---- two lines are told apart
+
+abbrev pub lines_apart : RouteLine → RouteLine → Bool
+lines_apart a b = (not (same_verb a.verb b.verb) || not (pointwise ◌==◌ a.method b.method)) || paths_apart a.path b.path
+
+abbrev pairs_apart : List RouteLine → Bool
+pairs_apart [] = true
+pairs_apart (l ∷ ls) = list_all (lines_apart l) ls && pairs_apart ls
+
+each : (p : RouteLine → Bool) (ls : List RouteLine) (line : RouteLine) → list_all p ls ≡ true → Contains ls line → p line ≡ true
+each p ls line t there = All-contains (λ l. p l ≡ true) ls line (AllPass-from_list_all p ls t) there
+
+one_of_two : (ls : List RouteLine) (a b : RouteLine) → pairs_apart ls ≡ true → Contains ls a → Contains ls b → (a ≡ b) ⊎ ((lines_apart a b ≡ true) ⊎ (lines_apart b a ≡ true))
+one_of_two [] a b t here there = nothing_in a here
+one_of_two (l ∷ ls) a b t here there =
+    let parts = and_parts (list_all (lines_apart l) ls) (pairs_apart ls) t in
+    ⊎_elim
+    (λ (first : l ≡ a).
+    ⊎_elim
+    (λ (second : l ≡ b). inl (sym first ∙ second))
+    (λ (more : Contains ls b). inr (inl (subst (λ x. lines_apart x b ≡ true) first (each (lines_apart l) ls b parts.0 more))))
+    (first_or_rest l b ls there))
+    (λ (rest : Contains ls a).
+    ⊎_elim
+    (λ (second : l ≡ b). inr (inr (subst (λ x. lines_apart x a ≡ true) second (each (lines_apart l) ls a parts.0 rest))))
+    (λ (more : Contains ls b). one_of_two ls a b parts.1 rest more)
+    (first_or_rest l b ls there))
+    (first_or_rest l a ls here)
+
+pub lines_told : (a b : RouteLine) → Contains lines a → Contains lines b → (a ≡ b) ⊎ ((lines_apart a b ≡ true) ⊎ (lines_apart b a ≡ true))
+unfolding lines
+lines_told a b = one_of_two lines a b refl
