@@ -1,5 +1,7 @@
+pub mod Accepting
 pub mod Fixed
 pub mod Given
 pub mod Known
+pub mod Reading
 pub mod StoredParts
 pub mod Tests

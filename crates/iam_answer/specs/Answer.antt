@@ -12,9 +12,9 @@ use Rattle.iam_types.specs.declared.answer.Answer.{Answer}
 use Rattle.iam_types.specs.declared.answer.Answer.TheVariants.{Refused, Permissions, Policy as APolicy, Resource as AResource}
 use Rattle.iam_types.specs.declared.answer.Resource.TheVariants.{Nothing}
 use Rattle.iam_types.specs.declared.ask.Ask.{Ask}
-use Rattle.iam_types.specs.declared.ask.Ask.TheVariants.{Test, Policy}
+use Rattle.iam_types.specs.declared.ask.Ask.TheVariants.{Test, Policy, Node, Folders, Projects, TagKey, TagValue, Tags, Group, Role, Denies, Deny, Boundary, Bound, Troubleshoot}
 use Rattle.iam_types.specs.declared.command.Command.{Command}
-use Rattle.iam_types.specs.declared.command.Command.TheVariants.{SetAllow}
+use Rattle.iam_types.specs.declared.command.Command.TheVariants.{SetAllow, CreateFolder, RenameFolder, CreateProject, Move, DeleteNode, UndeleteNode, CreateTagKey, DeleteTagKey, CreateTagValue, DeleteTagValue, BindTag, UnbindTag, CreateGroup, DeleteGroup, AddMember, RemoveMember, CreateRole, UpdateRole, DeleteRole, UndeleteRole, CreateDeny, UpdateDeny, DeleteDeny, CreateBoundary, UpdateBoundary, DeleteBoundary, CreateBound, DeleteBound}
 use Rattle.iam_types.specs.declared.refusal.LimitName.TheVariants.{PermissionsAsked}
 use Rattle.iam_types.specs.declared.refusal.Refusal.{Refusal}
 use Rattle.iam_types.specs.declared.refusal.Refusal.TheVariants.{NotFound, Version, PermissionUnknown}
@@ -62,21 +62,70 @@ policy_shown tables node = APolicy (bindings_at tables node) (etag_of tables nod
 abbrev pub policy_answer : Tables → NodeId → ℕ → Caller → Moment → Answer
 policy_answer tables node version caller moment = unless (policy_refusals tables node version caller moment) (policy_shown tables node)
 
+-- what is shown of what can't be asked or given yet
+abbrev pub nothing_shown : Answer
+nothing_shown = AResource Nothing
+
 -- ---- all reads
 
--- What is answered, in these tables at this moment. The other reads can't be asked yet.
+-- what is answered, in these tables at this moment
 unfoldable pub answer_of : Tables → Ask → Caller → Moment → Answer
 answer_of tables (Test name permissions) caller moment = at_node tables name (λ node. test_answer tables node permissions caller moment)
 answer_of tables (Policy name version) caller moment = at_node tables name (λ node. policy_answer tables node version caller moment)
-answer_of tables ask caller moment = AResource Nothing
+answer_of tables (Node node) caller moment = nothing_shown
+answer_of tables (Folders parent) caller moment = nothing_shown
+answer_of tables (Projects parent) caller moment = nothing_shown
+answer_of tables (TagKey number) caller moment = nothing_shown
+answer_of tables (TagValue number) caller moment = nothing_shown
+answer_of tables (Tags node) caller moment = nothing_shown
+answer_of tables (Group email) caller moment = nothing_shown
+answer_of tables (Role name) caller moment = nothing_shown
+answer_of tables (Denies node) caller moment = nothing_shown
+answer_of tables (Deny node id) caller moment = nothing_shown
+answer_of tables (Boundary parent id) caller moment = nothing_shown
+answer_of tables (Bound node id) caller moment = nothing_shown
+answer_of tables (Troubleshoot asker node permission resource at) caller moment = nothing_shown
 
 -- ---- all changes
 
 -- the policy of the node as it is shown, where the node is there
 abbrev pub policy_written : Tables → NodeName → Answer
-policy_written tables name = option_map_or (policy_shown tables) (resolve tables name) (AResource Nothing)
+policy_written tables name = option_map_or (policy_shown tables) (resolve tables name) nothing_shown
 
--- What an accepted change is answered, in the tables after it. The other changes can't be given yet.
-unfoldable pub written_answer : Tables → Command → Answer
-written_answer tables (SetAllow name version etag bindings) = policy_written tables name
-written_answer tables command = AResource Nothing
+-- What an accepted change is answered, from the tables before it and those after it: what it makes is shown as it stands after it, and what it
+-- takes away as it stood before.
+unfoldable pub written_answer : Tables → Tables → Command → Answer
+written_answer before later (SetAllow name version etag bindings) = policy_written later name
+written_answer before later (CreateFolder parent display) = nothing_shown
+written_answer before later (RenameFolder node display) = nothing_shown
+written_answer before later (CreateProject project parent display) = nothing_shown
+written_answer before later (Move node to) = nothing_shown
+written_answer before later (DeleteNode node) = nothing_shown
+written_answer before later (UndeleteNode node) = nothing_shown
+written_answer before later (CreateTagKey parent short) = nothing_shown
+written_answer before later (DeleteTagKey number) = nothing_shown
+written_answer before later (CreateTagValue key short) = nothing_shown
+written_answer before later (DeleteTagValue number) = nothing_shown
+written_answer before later (BindTag node value) = nothing_shown
+written_answer before later (UnbindTag node value) = nothing_shown
+written_answer before later (CreateGroup email) = nothing_shown
+written_answer before later (DeleteGroup email) = nothing_shown
+written_answer before later (AddMember group member) = nothing_shown
+written_answer before later (RemoveMember group member) = nothing_shown
+written_answer before later (CreateRole owner id title stage permissions) = nothing_shown
+written_answer before later (UpdateRole name etag title stage permissions) = nothing_shown
+written_answer before later (DeleteRole name) = nothing_shown
+written_answer before later (UndeleteRole name) = nothing_shown
+written_answer before later (CreateDeny node id display rules) = nothing_shown
+written_answer before later (UpdateDeny node id etag display rules) = nothing_shown
+written_answer before later (DeleteDeny node id) = nothing_shown
+written_answer before later (CreateBoundary parent id display version rules) = nothing_shown
+written_answer before later (UpdateBoundary parent id etag display version rules) = nothing_shown
+written_answer before later (DeleteBoundary parent id) = nothing_shown
+written_answer before later (CreateBound node id target owner policy condition) = nothing_shown
+written_answer before later (DeleteBound node id) = nothing_shown
+
+-- an answer that isn't a refusal, counted
+abbrev pub accepts : Answer → ℕ
+accepts (Refused refusal) = 0
+accepts answer = 1

@@ -1,5 +1,6 @@
 -- The bytes of replies.
-use Rattle.std.specs.Prelude.{ℕ, true, false, List, Some, None}
+use Rattle.std.specs.Prelude.{ℕ, ◌==◌, true, false, List, Some, None, codes, if◌then◌else◌}
+use Rattle.std.specs.List.{starts_with}
 use Rattle.iam_text.specs.declared.moment.Moment.{Moment}
 use Rattle.iam_types.specs.declared.answer.Answer.{Answer}
 use Rattle.iam_types.specs.declared.answer.Answer.TheVariants.{Refused}
@@ -32,3 +33,7 @@ no_memory_reply = plain_reply (OutOfMemory false)
 -- memory was refused to the answer of the change of this number, which is stored
 unfoldable pub stored_reply : ℕ → List ℕ
 stored_reply number = bytes_of (record { code = (line_of (OutOfMemory true)).code; number = Some number; moment = None; body = error_text (OutOfMemory true) })
+
+-- a reply of code 200, counted
+unfoldable pub shows_ok : List ℕ → ℕ
+shows_ok reply = if starts_with ◌==◌ reply (codes "HTTP/1.1 200 ") then 1 else 0

@@ -1,5 +1,6 @@
 // What changes are answered.
 ghost use Rattle.std.specs.Prelude.{◌≡◌, IfOk};
+ghost use Rattle.iam_types.specs.declared.tables.Tables.{Tables};
 ghost use Rattle.iam_answer.specs.Answer.{policy_written, written_answer};
 
 use crate::policies::policy_shown;
@@ -18,13 +19,41 @@ fn policy_written(alloc: Global, index: &Index, node: &NodeName) -> Result<Answe
     }
 }
 
-/// What an accepted change is answered, where the index holds the state after it.
+/// What an accepted change is answered, where the index holds the state after it. None that can be given yet shows what
+/// stood before it.
 #[tactic(auto, unfolding(crate::specs::Answer::written_answer))]
 pub fn written(alloc: Global, index: &Index, command: &Command) -> Result<Answer, OutOfMemory>
-    ensures { IfOk result (λ answer. answer ≡ written_answer index.now command.now) }
+    ensures { (before : Tables) → IfOk result (λ answer. answer ≡ written_answer before index.now command.now) }
 {
     match command {
         Command::SetAllow { node, .. } => policy_written(alloc, index, node),
-        _ => Ok(Answer::Resource(Resource::Nothing)),
+        Command::CreateFolder { .. }
+        | Command::RenameFolder { .. }
+        | Command::CreateProject { .. }
+        | Command::Move { .. }
+        | Command::DeleteNode { .. }
+        | Command::UndeleteNode { .. }
+        | Command::CreateTagKey { .. }
+        | Command::DeleteTagKey { .. }
+        | Command::CreateTagValue { .. }
+        | Command::DeleteTagValue { .. }
+        | Command::BindTag { .. }
+        | Command::UnbindTag { .. }
+        | Command::CreateGroup { .. }
+        | Command::DeleteGroup { .. }
+        | Command::AddMember { .. }
+        | Command::RemoveMember { .. }
+        | Command::CreateRole { .. }
+        | Command::UpdateRole { .. }
+        | Command::DeleteRole { .. }
+        | Command::UndeleteRole { .. }
+        | Command::CreateDeny { .. }
+        | Command::UpdateDeny { .. }
+        | Command::DeleteDeny { .. }
+        | Command::CreateBoundary { .. }
+        | Command::UpdateBoundary { .. }
+        | Command::DeleteBoundary { .. }
+        | Command::CreateBound { .. }
+        | Command::DeleteBound { .. } => Ok(Answer::Resource(Resource::Nothing)),
     }
 }

@@ -7,6 +7,7 @@
 
 mod answers;
 mod changes;
+mod laws;
 mod policies;
 mod queries;
 mod replies;
@@ -15,5 +16,6 @@ mod testing;
 
 pub use answers::answer;
 pub use changes::written;
+pub use laws::{replies_tell_acceptance, written_answers_accept};
 pub use replies::{keeper_reply, no_memory_reply, plain_reply, served_reply};
 pub use stored::StoredReply;

@@ -6,7 +6,7 @@ ghost use Rattle.iam_wire.specs.Reply.{bytes_of};
 
 use iam_json::{Details, ErrorReply, answer_body, code_of, error_body, refusal_code};
 use iam_tables::Answer;
-use iam_text::{List, Moment, OutOfMemory};
+use iam_text::{List, Moment, OutOfMemory, let_go};
 use iam_wire::{Reply, reply_bytes};
 use std::alloc::Global;
 
@@ -39,9 +39,6 @@ pub fn plain_reply(alloc: Global, error: &ErrorReply) -> Result<List<u8>, OutOfM
 {
     refused_reply(alloc, error, None)
 }
-
-// Drops a value. A function that drops it by itself has a branch for each kind of the value.
-fn let_go<T: Drop>(_value: T) {}
 
 /// The reply to a write for which the keeper failed: it shows the moment alone.
 #[tactic(auto, unfolding(crate::specs::Replies::keeper_reply))]

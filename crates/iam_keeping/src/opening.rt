@@ -1,5 +1,5 @@
-// The tables of a keeper's rows.
-ghost use Rattle.std.specs.Prelude.{◌≡◌, ◌≤◌, [], map, All, IfOk, IfSome, IsErrOf, OnErr, OnOk};
+// The index over the tables of a keeper's rows.
+ghost use Rattle.std.specs.Prelude.{◌≡◌, ◌≤◌, [], map, All, IfErr, IfOk, IfSome, IsErrOf, OnErr, OnOk};
 ghost use Rattle.std.specs.declared.option.Option.{Option as Maybe};
 ghost use Rattle.iam_text.specs.Put.{IsInOrder};
 ghost use Rattle.iam_types.specs.declared.tables.Opening.{Opening as AnOpening};
@@ -16,27 +16,56 @@ ghost use Rattle.iam_keeping.specs.Opened.{IsOpenedFrom, IsLeft, IsLoadFault};
 ghost use Rattle.iam_rows.specs.Kept.{AreFactsOf, AreRows, AreWrites, KeepsTables};
 
 use crate::stop::{LoadFault, OpenStop};
+use iam_judge::{BuildStop, Index};
 use iam_law::{conditions_stand, openings_are_good};
 use iam_model::{facts_are_put, given_tables_are_consistent, ordered_facts_are_placed};
-use iam_outer::{Keeper, Row, RowWrite};
+use iam_outer::{Keeper, Row, RowWrite, Zones};
 use iam_rows::{
     LoadStop, facts_of_rows, facts_stand_as_rows, puts_of, read_facts_are_kept, rows_follow_changes,
 };
-use iam_tables::{Fact, Opening, Tables, TablesStop, facts_of, from_facts, opening_tables};
+use iam_tables::{
+    Catalogue, Fact, Opening, Tables, TablesStop, facts_of, from_facts, opening_tables,
+};
 use iam_text::{List, OutOfMemory};
 use std::alloc::Global;
 
-// The tables that an organisation starts from, and the writes that keep them.
-fn first_tables(alloc: Global, opening: &Opening) -> Result<(Tables, List<RowWrite>), OutOfMemory>
+// The index over consistent tables.
+fn index_of(
+    alloc: Global,
+    tables: Tables,
+    catalogue: Catalogue,
+    zones: Zones,
+) -> Result<Index, OpenStop>
+    requires { Consistent tables }
+    ensures ok { IfOk result (λ index. index ≡ tables) }
+    ensures err { IfErr result (λ stop. stop ≡ OpenStop.OutOfMemory) }
+{
+    conditions_stand();
+    match Index::build(alloc, tables, catalogue, zones) {
+        Ok(index) => Ok(index),
+        Err(BuildStop::BadCondition) => unreachable!(),
+        Err(BuildStop::OutOfMemory) => Err(OpenStop::OutOfMemory),
+    }
+}
+
+// The index that an organisation starts from, and the writes that keep its tables.
+fn first_index(
+    alloc: Global,
+    opening: &Opening,
+    catalogue: Catalogue,
+    zones: Zones,
+) -> Result<(Index, List<RowWrite>), OpenStop>
     requires { IsOpening opening.now }
-    ensures tables { IfOk result (λ made. made.0 ≡ the_opening opening.now) }
+    ensures index { IfOk result (λ made. made.0 ≡ the_opening opening.now) }
     ensures writes { IfOk result (λ made. AreWrites (map (λ fact. FactChange.Put fact) (the_facts (the_opening opening.now))) made.1) }
+    ensures err { IfErr result (λ stop. stop ≡ OpenStop.OutOfMemory) }
 {
     openings_are_good();
     let tables = opening_tables(alloc, opening)?;
     let facts = facts_of(alloc, &tables)?;
     let writes = puts_of(alloc, facts.as_slice())?;
-    Ok((tables, writes))
+    let index = index_of(alloc, tables, catalogue, zones)?;
+    Ok((index, writes))
 }
 
 fn commit<P: Keeper>(keeper: &mut P, writes: &[RowWrite]) -> Result<(), OpenStop>
@@ -51,13 +80,19 @@ fn commit<P: Keeper>(keeper: &mut P, writes: &[RowWrite]) -> Result<(), OpenStop
     Ok(())
 }
 
-// Keeps what an organisation starts from, where the keeper has no rows. All is made before the commit, so that no
-// memory can be refused behind it.
-fn begin<P: Keeper>(alloc: Global, opening: &Opening, keeper: &mut P) -> Result<Tables, OpenStop>
+// Keeps what an organisation starts from, where the keeper has no rows. All is made before the commit, the index too, so
+// that nothing can be refused behind it.
+fn begin<P: Keeper>(
+    alloc: Global,
+    opening: &Opening,
+    keeper: &mut P,
+    catalogue: Catalogue,
+    zones: Zones,
+) -> Result<Index, OpenStop>
     requires formed { IsOpening opening.now }
     requires empty { IfSome (P.rows keeper.old) (λ rows. rows ≡ []) }
     ensures good { IfOk result Good }
-    ensures opened { IfOk result (λ tables. tables ≡ the_opening opening.now) }
+    ensures opened { IfOk result (λ index. index ≡ the_opening opening.now) }
     ensures kept { IfOk result (KeepsTables (P.rows keeper.new)) }
     ensures left { OnOk result (IsLeft (Maybe.Some opening.now) (P.rows keeper.old) (P.rows keeper.new)) }
     ensures err { OnErr result (P.rows keeper.new ≡ P.rows keeper.old) }
@@ -69,9 +104,9 @@ fn begin<P: Keeper>(alloc: Global, opening: &Opening, keeper: &mut P) -> Result<
     openings_are_good();
     facts_are_put();
     rows_follow_changes();
-    let (tables, writes) = first_tables(alloc, opening)?;
+    let (index, writes) = first_index(alloc, opening, catalogue, zones)?;
     match commit(keeper, writes.as_slice()) {
-        Ok(()) => Ok(tables),
+        Ok(()) => Ok(index),
         Err(stop) => Err(stop),
     }
 }
@@ -80,7 +115,9 @@ fn begin_with<P: Keeper>(
     alloc: Global,
     opening: Option<Opening>,
     keeper: &mut P,
-) -> Result<Tables, OpenStop>
+    catalogue: Catalogue,
+    zones: Zones,
+) -> Result<Index, OpenStop>
     requires formed { IfSome opening IsOpening }
     requires empty { IfSome (P.rows keeper.old) (λ rows. rows ≡ []) }
     ensures good { IfOk result Good }
@@ -94,7 +131,7 @@ fn begin_with<P: Keeper>(
     ensures same { P.same keeper.old keeper.new }
 {
     match opening {
-        Some(opening) => begin(alloc, &opening, keeper),
+        Some(opening) => begin(alloc, &opening, keeper, catalogue, zones),
         None => Err(OpenStop::Rows(LoadFault::Empty)),
     }
 }
@@ -133,16 +170,34 @@ fn tables_of_rows(alloc: Global, rows: &[Row]) -> Result<Tables, OpenStop>
     }
 }
 
-/// Opens the tables of the keeper's rows. Where there are none, the opening's tables are kept and opened; where rows
-/// are there, an opening is passed over.
+// The index over the tables of rows.
+fn index_of_rows(
+    alloc: Global,
+    rows: &[Row],
+    catalogue: Catalogue,
+    zones: Zones,
+) -> Result<Index, OpenStop>
+    ensures consistent { IfOk result Consistent }
+    ensures opened { IfOk result (λ index. IsInOrder row_order rows.now → AreRows (the_facts index) rows.now) }
+    ensures fault { (opening : Maybe AnOpening) (fault : AFault) → IsErrOf result (OpenStop.Rows fault) → IsLoadFault opening rows.now fault }
+    ensures keeper { IsErrOf result OpenStop.Keeper → ⊥ }
+{
+    let tables = tables_of_rows(alloc, rows)?;
+    index_of(alloc, tables, catalogue, zones)
+}
+
+/// Opens the index over the tables of the keeper's rows. Where there are none, the opening's tables are kept and opened;
+/// where rows are there, an opening is passed over. Nothing is kept before the index is built.
 pub fn open<P: Keeper>(
     alloc: Global,
     opening: Option<Opening>,
     keeper: &mut P,
-) -> Result<Tables, OpenStop>
+    catalogue: Catalogue,
+    zones: Zones,
+) -> Result<Index, OpenStop>
     requires { IfSome opening IsOpening }
     ensures good { IfOk result Good }
-    ensures opened { IfOk result (λ tables. IfSome (P.rows keeper.old) (λ rows. IsOpenedFrom opening rows tables)) }
+    ensures opened { IfOk result (λ index. IfSome (P.rows keeper.old) (λ rows. IsOpenedFrom opening rows index)) }
     ensures kept { IfOk result (KeepsTables (P.rows keeper.new)) }
     ensures left { OnOk result (IsLeft opening (P.rows keeper.old) (P.rows keeper.new)) }
     ensures err { OnErr result (P.rows keeper.new ≡ P.rows keeper.old) }
@@ -154,7 +209,7 @@ pub fn open<P: Keeper>(
     conditions_stand();
     let rows = keeper.load()?;
     if rows.is_empty() {
-        return begin_with(alloc, opening, keeper);
+        return begin_with(alloc, opening, keeper, catalogue, zones);
     }
-    tables_of_rows(alloc, rows.as_slice())
+    index_of_rows(alloc, rows.as_slice(), catalogue, zones)
 }

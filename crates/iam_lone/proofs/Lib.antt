@@ -1,4 +1,3 @@
 pub mod Alones
-pub mod Entries
-pub mod GoingOn
 pub mod Standing
+pub mod Waiting

@@ -1,4 +1,3 @@
-pub mod GoingOn
 pub mod Histories
 pub mod Lone
 pub mod Ran

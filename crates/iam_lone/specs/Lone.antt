@@ -1,51 +1,46 @@
 -- What an office of one conversation stands for.
-use Rattle.std.specs.Prelude.{◌≡◌, ℕ, ◌+◌, ◌-◌, ◌≤◌, ◌⊎◌, List, drop, take, length, Ok, Err, Some, None}
+use Rattle.std.specs.Prelude.{◌≡◌, ℕ, ◌⊎◌, List, Ok, Err, Some, None, IfSome}
+use Rattle.std.specs.declared.option.Option.{Option}
 use Rattle.std.specs.declared.result.Result.{Result}
 use Rattle.iam_types.specs.declared.answer.Answer.{Answer}
 use Rattle.iam_types.specs.declared.answer.Answer.TheVariants.{Refused}
 use Rattle.iam_types.specs.declared.command.Entry.{Entry}
 use Rattle.iam_types.specs.declared.refusal.Refusal.{Refusal}
 use Rattle.iam_types.specs.declared.tables.Tables.{Tables}
+use Rattle.iam_model.specs.Commands.{IsEntry, after}
 use Rattle.iam_law.specs.Admit.{admission}
 use Rattle.iam_law.specs.History.{state, Legal}
 use Rattle.iam_answer.specs.Answer.{written_answer}
 use Rattle.iam_office.specs.declared.office.Numbered.{Numbered}
 use Rattle.iam_office.specs.declared.office.WriteStop.{WriteStop}
 use Rattle.iam_office.specs.declared.office.WriteStop.TheVariants.{KeeperFault, OutOfMemory}
-use Rattle.iam_lone.specs.GoingOn.{Standing, behind}
 
--- The tables of the index, the keeper, the accepted entries in their order, and how many of them the index has taken up. An entry
--- that is kept and not yet taken up waits.
+-- the tables of the index, the keeper, and the entry that is kept and that the index hasn't taken up yet, if one waits
 pub record Alone (P : Type 0) : Type 0 where
   pub tables : Tables
   pub keeper : P
-  pub entries : List Entry
-  pub taken : ℕ
+  pub waiting : Option Entry
 
 -- the tables with the entry that waits
-abbrev pub current : {P : Type 0} → Alone P → Tables
-current lone = state lone.tables (drop lone.taken lone.entries)
+abbrev pub with_waiting : Tables → Option Entry → Tables
+with_waiting tables None = tables
+with_waiting tables (Some entry) = after tables entry
 
--- how many entries wait
-abbrev pub waiting : {P : Type 0} → Alone P → ℕ
-waiting lone = length lone.entries - lone.taken
+abbrev pub current : {P : Type 0} → Alone P → Tables
+current lone = with_waiting lone.tables lone.waiting
 
 -- the same with no entry that waits
 abbrev pub taken_up : {P : Type 0} → Alone P → Alone P
-taken_up lone = record { tables = current lone; keeper = lone.keeper; entries = lone.entries; taken = length lone.entries }
+taken_up lone = record { tables = current lone; keeper = lone.keeper; waiting = None }
 
--- From some first tables on the entries are a legal history. The tables are those after the entries that were taken up, all of them but
--- the last at least.
-pub record IsInStep (tables : Tables) (entries : List Entry) (taken : ℕ) : Type 0 where
-  pub first : Tables
-  pub legal : Legal first entries
-  pub reached : state first (take taken entries) ≡ tables
-  pub within : taken ≤ length entries
-  pub last : length entries ≤ taken + 1
+-- an entry that waits is accepted
+abbrev pub IsWaiting : Tables → Option Entry → Type 0
+IsWaiting tables waiting = IfSome waiting (λ entry. IsEntry entry × (admission tables entry ≡ None))
 
--- the number of the tables with the entry that waits is theirs, and one more where one waits
-abbrev pub IsCounted : {P : Type 0} → Alone P → Type 0
-IsCounted lone = (current lone).org.changes ≡ lone.tables.org.changes + waiting lone
+-- how many entries wait
+abbrev pub waits : Option Entry → ℕ
+waits None = 0
+waits (Some entry) = 1
 
 -- each pair whose state is these tables
 abbrev pub StandsAt : Tables → Tables → List Entry → Type 0
@@ -58,30 +53,29 @@ StandsFor lone tables history = StandsAt (current lone) tables history
 pub lone_legal : {P : Type 0} (lone : Alone P) (tables : Tables) (history : List Entry) → StandsFor lone tables history → Legal tables history
 lone_legal lone tables history stands = stands.0
 
--- what an office has come to
-abbrev pub standing : {P : Type 0} → Alone P → Standing
-standing lone = record { now = current lone; entries = lone.entries }
+-- ---- what comes of a write, by the tables before and after it
 
--- ---- what comes of a write
+-- the entry is refused, and this is its answer
+abbrev pub IsRefused : Tables → Tables → Entry → Result (Numbered Answer) WriteStop → Type 0
+IsRefused old new entry result =
+    (refusal : Refusal) × (admission old entry ≡ Some refusal) × (new ≡ old)
+    × (result ≡ Ok (record { number = old.org.changes; value = Refused refusal }))
 
--- the answer to an accepted entry in the tables after it, or there is no memory for it
-unfoldable pub IsShown : Tables → Entry → Result (Numbered Answer) WriteStop → Type 0
-IsShown new entry (Ok answer) = (answer.number ≡ new.org.changes) × (answer.value ≡ written_answer new entry.command)
-IsShown new entry (Err KeeperFault) = ⊥
-IsShown new entry (Err (OutOfMemory (Some number))) = number ≡ new.org.changes
-IsShown new entry (Err (OutOfMemory None)) = ⊥
+-- the entry is accepted and kept, and is answered, or there is no memory for its answer
+abbrev pub IsKept : Tables → Tables → Entry → Result (Numbered Answer) WriteStop → Type 0
+IsKept old new entry result =
+    (admission old entry ≡ None) × (new ≡ after old entry)
+    × ((result ≡ Ok (record { number = new.org.changes; value = written_answer old new entry.command }))
+    ⊎ (result ≡ Err (OutOfMemory (Some new.org.changes))))
 
--- the entry is kept, is the last of the entries, and is answered so
-abbrev pub IsMade : Standing → Standing → Entry → Result (Numbered Answer) WriteStop → Type 0
-IsMade old new entry result = (new ≡ behind old entry) × IsShown new.now entry result
+-- the entry is accepted, and the keeper failed
+abbrev pub IsFailed : Tables → Tables → Entry → Result (Numbered Answer) WriteStop → Type 0
+IsFailed old new entry result = (admission old entry ≡ None) × (new ≡ old) × (result ≡ Err KeeperFault)
 
--- The entry is refused, or the keeper failed, or there is no memory to judge or to keep it, and nothing changed.
-unfoldable pub IsUnmade : Standing → Standing → Entry → Result (Numbered Answer) WriteStop → Type 0
-IsUnmade old new entry (Ok answer) = (new ≡ old) × (answer.number ≡ old.now.org.changes) × ((refusal : Refusal) × (admission old.now entry ≡ Some refusal) × (answer.value ≡ Refused refusal))
-IsUnmade old new entry (Err KeeperFault) = new ≡ old
-IsUnmade old new entry (Err (OutOfMemory (Some number))) = ⊥
-IsUnmade old new entry (Err (OutOfMemory None)) = new ≡ old
+-- there is no memory to judge the entry or to keep it
+abbrev pub IsUnjudged : Tables → Tables → Result (Numbered Answer) WriteStop → Type 0
+IsUnjudged old new result = (new ≡ old) × (result ≡ Err (OutOfMemory None))
 
--- what comes of an entry: it isn't made, or is accepted and made
-unfoldable pub IsJudged : Standing → Standing → Entry → Result (Numbered Answer) WriteStop → Type 0
-IsJudged old new entry result = IsUnmade old new entry result ⊎ ((admission old.now entry ≡ None) × IsMade old new entry result)
+unfoldable pub IsJudged : Tables → Tables → Entry → Result (Numbered Answer) WriteStop → Type 0
+IsJudged old new entry result =
+    IsRefused old new entry result ⊎ (IsKept old new entry result ⊎ (IsFailed old new entry result ⊎ IsUnjudged old new result))

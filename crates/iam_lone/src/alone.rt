@@ -1,34 +1,29 @@
 // A conversation over an office of its own.
-ghost use Rattle.std.specs.Prelude.{◌≡◌, [], IfSome};
-ghost use Rattle.iam_outer.specs.Causes.{Rose};
-ghost use Rattle.iam_outer.specs.Given.{AppendsMoments};
-ghost use Rattle.iam_office.specs.Talks.{Rise, all_keeper_faults, all_moments};
+ghost use Rattle.std.specs.Prelude.{◌≡◌, None};
+ghost use Rattle.iam_office.specs.Talks.{Caused, OfInput, Talked};
+ghost use Rattle.iam_office.specs.Turns.{Clocked, Rise, all_keeper_faults};
 ghost use Rattle.iam_rows.specs.Kept.{KeepsTables};
-ghost use Rattle.iam_lone.specs.Ran.{KeptFrom, Ran};
+ghost use Rattle.iam_lone.specs.Ran.{RanFrom};
 
 use crate::lone::Lone;
 use iam_judge::Index;
 use iam_office::converse;
-use iam_outer::{Clock, Keeper, Line, Talk, TalkEnd};
+use iam_outer::{Clock, Keeper, Line, Talk};
 use std::alloc::Global;
 
-// A conversation over an office that nothing was added to, up to its end.
+// A conversation over an office in which no entry waits.
 fn talk<L: Line, C: Clock, P: Keeper>(
     alloc: Global,
     office: &mut Lone<P>,
     line: &mut L,
     clock: &mut C,
 ) -> Talk
-    requires { office.old ≡ record { tables = office.old.tables; keeper = office.old.keeper; entries = []; taken = 0 } }
-    ensures ran { IfSome (L.left line.old) (λ bytes. Ran office.old.tables (L.taken line.old) (L.taken line.new) (P.rows office.new.keeper) bytes result.end result.trace) }
-    ensures kept { KeptFrom office.old.tables (P.rows office.new.keeper) }
+    requires { office.old.waiting ≡ None }
+    ensures talked { OfInput (L.left line.old) (λ input. Talked (RanFrom office.old.tables (P.rows office.new.keeper)) (L.taken line.old) (L.taken line.new) input result.end result.trace) }
+    ensures clock { Clocked (C.given clock.old) (C.given clock.new) (C.clock_faults clock.old) (C.clock_faults clock.new) result.trace }
     ensures faults { Rise (all_keeper_faults result.trace) (P.keeper_faults office.old.keeper) (P.keeper_faults office.new.keeper) }
+    ensures causes { Caused result.end (L.read_faults line.old) (L.read_faults line.new) (L.write_faults line.old) (L.write_faults line.new) (C.clock_faults clock.old) (C.clock_faults clock.new) }
     ensures same { P.same office.old.keeper office.new.keeper }
-    ensures moments { AppendsMoments (C.given clock.old) (C.given clock.new) (all_moments result.trace) }
-    ensures clock_fault { result.end ≡ TalkEnd.ClockFault → Rose (C.clock_faults clock.old) (C.clock_faults clock.new) }
-    ensures write_fault { result.end ≡ TalkEnd.WriteFault → Rose (L.write_faults line.old) (L.write_faults line.new) }
-    ensures read_fault { result.end ≡ TalkEnd.ReadFault → Rose (L.read_faults line.old) (L.read_faults line.new) }
-    ensures whole { result.end ≡ TalkEnd.Cut → ⊥ }
 {
     let _good = office.number();
     let talk = converse(alloc, office, line, clock);
@@ -46,16 +41,12 @@ pub fn converse_alone<L: Line, C: Clock, P: Keeper>(
     clock: &mut C,
 ) -> Talk
     requires { KeepsTables (P.rows keeper.old) index }
-    ensures ran { IfSome (L.left line.old) (λ bytes. Ran index (L.taken line.old) (L.taken line.new) (P.rows keeper.new) bytes result.end result.trace) }
-    ensures kept { KeptFrom index (P.rows keeper.new) }
+    ensures talked { OfInput (L.left line.old) (λ input. Talked (RanFrom index (P.rows keeper.new)) (L.taken line.old) (L.taken line.new) input result.end result.trace) }
+    ensures clock { Clocked (C.given clock.old) (C.given clock.new) (C.clock_faults clock.old) (C.clock_faults clock.new) result.trace }
     ensures faults { Rise (all_keeper_faults result.trace) (P.keeper_faults keeper.old) (P.keeper_faults keeper.new) }
-    ensures moments { AppendsMoments (C.given clock.old) (C.given clock.new) (all_moments result.trace) }
-    ensures clock_fault { result.end ≡ TalkEnd.ClockFault → Rose (C.clock_faults clock.old) (C.clock_faults clock.new) }
-    ensures write_fault { result.end ≡ TalkEnd.WriteFault → Rose (L.write_faults line.old) (L.write_faults line.new) }
-    ensures read_fault { result.end ≡ TalkEnd.ReadFault → Rose (L.read_faults line.old) (L.read_faults line.new) }
-    ensures whole { result.end ≡ TalkEnd.Cut → ⊥ }
+    ensures causes { Caused result.end (L.read_faults line.old) (L.read_faults line.new) (L.write_faults line.old) (L.write_faults line.new) (C.clock_faults clock.old) (C.clock_faults clock.new) }
 {
-    let mut office = Lone::new(alloc, index, &mut *keeper);
+    let mut office = Lone::new(index, &mut *keeper);
     let talk = talk(alloc, &mut office, line, clock);
     let _keeper = office.into_keeper();
     talk

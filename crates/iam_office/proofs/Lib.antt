@@ -1,10 +1,11 @@
 pub mod AllMessages
 pub mod Answering
 pub mod Asks
+pub mod Clocks
+pub mod Counting
 pub mod Finishing
 pub mod Follows
+pub mod Going
 pub mod Leading
-pub mod OneMore
 pub mod Pieces
-pub mod Turning
-pub mod Written
+pub mod Saying

@@ -1,5 +1,10 @@
-pub mod Exchange
 pub mod Office
-pub mod Says
 pub mod Turns
+pub mod Asks
+pub mod Says
+pub mod Replied
+pub mod Accepted
+pub mod Replying
+pub mod Handled
 pub mod Talks
+pub mod Laws

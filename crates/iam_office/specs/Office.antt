@@ -10,9 +10,10 @@ use Rattle.iam_types.specs.declared.ask.Ask.{Ask}
 use Rattle.iam_types.specs.declared.command.Entry.{Entry}
 use Rattle.iam_types.specs.declared.refusal.Refusal.{Refusal}
 use Rattle.iam_types.specs.declared.tables.Tables.{Tables}
+use Rattle.iam_model.specs.Commands.{after}
 use Rattle.iam_law.specs.Admit.{admission}
 use Rattle.iam_law.specs.History.{state}
-use Rattle.iam_answer.specs.Answer.{answer_of, written_answer}
+use Rattle.iam_answer.specs.Answer.{accepts, answer_of, written_answer}
 use Rattle.iam_office.specs.declared.office.Numbered.{Numbered}
 use Rattle.iam_office.specs.declared.office.FloorStop.{FloorStop}
 use Rattle.iam_office.specs.declared.office.FloorStop.TheVariants.{Ahead, OutOfMemory}
@@ -45,7 +46,7 @@ abbrev pub ReadTold : {E : Type 0} → Bool → Ask → Caller → Moment → Re
 ReadTold alone ask caller moment (Ok answer) tables history more =
     (answer.number ≡ Number tables (history ++ more))
     × (answer.value ≡ answer_of (state tables (history ++ more)) ask caller moment)
-    × (IsTrue alone → more ≡ [])
+    × (IsTrue alone → (more ≡ []) × (answer.number ≡ (state tables history).org.changes))
 ReadTold alone ask caller moment (Err stop) tables history more = IsTrue alone → more ≡ []
 
 -- ---- writes
@@ -55,55 +56,60 @@ abbrev pub IsRefusedAfter : Tables → List Entry → Entry → Answer → Type 
 IsRefusedAfter tables history entry value =
     (refusal : Refusal) × (admission (state tables history) entry ≡ Some refusal) × (value ≡ Refused refusal)
 
--- the entry is the last of the history, and this is the answer in the state after it
+-- the entry is accepted, is the last of the history, and this is the answer, from the states before it and after it
 abbrev pub IsLastOf : Tables → List Entry → Entry → Answer → Type 0
 IsLastOf tables history entry value =
-    (before : List Entry) × (history ≡ before ++ entry ∷ []) × (value ≡ written_answer (state tables history) entry.command)
+    (before : List Entry) × (history ≡ before ++ entry ∷ []) × (admission (state tables before) entry ≡ None)
+    × (value ≡ written_answer (state tables before) (state tables history) entry.command)
 
 -- the answer to an entry: it is refused at the end of the history, or is the last of it
 unfoldable pub Judged : Tables → List Entry → Entry → Answer → Type 0
 Judged tables history entry value = IsRefusedAfter tables history entry value ⊎ IsLastOf tables history entry value
+
+-- the entry is accepted behind the first of the history, and is stored as that of this number
+unfoldable pub IsStoredAt : Tables → List Entry → ℕ → Entry → Type 0
+IsStoredAt tables history number entry =
+    (tables.org.changes < number) × (number ≤ Number tables history + 1)
+    × (admission (state tables (first tables (number - 1) history)) entry ≡ None)
+
+-- ---- writes where nobody else adds
 
 -- what the history gains by an entry that is judged so
 abbrev pub gained : Option Refusal → Entry → List Entry
 gained (Some refusal) entry = []
 gained None entry = entry ∷ []
 
--- the answer to an entry that is judged so, these being the tables afterwards
+-- the answer to an entry that is judged so in this state
 abbrev pub verdict : Option Refusal → Tables → Entry → Answer
-verdict (Some refusal) later entry = Refused refusal
-verdict None later entry = written_answer later entry.command
+verdict (Some refusal) now entry = Refused refusal
+verdict None now entry = written_answer now (after now entry) entry.command
 
--- where nobody else adds, an entry is judged in the state of the whole history, which gains exactly the accepted one
-unfoldable pub JudgedAlone : Entry → ℕ → Answer → Tables → List Entry → List Entry → Type 0
-JudgedAlone entry number value tables history more =
-    (more ≡ gained (admission (state tables history) entry) entry)
-    × (number ≡ Number tables (history ++ more))
-    × (value ≡ verdict (admission (state tables history) entry) (state tables (history ++ more)) entry)
+-- the entry is judged in this state: whether it is gained, the number of the state then, and the answer
+unfoldable pub JudgedAlone : Tables → Entry → ℕ → Answer → List Entry → Type 0
+JudgedAlone now entry number value gain =
+    (gain ≡ gained (admission now entry) entry)
+    × (number ≡ (state now gain).org.changes)
+    × (value ≡ verdict (admission now entry) now entry)
 
--- the entry is stored behind the first of the history; where nobody else adds, it is the last
-unfoldable pub StoredTold : Bool → Entry → ℕ → Tables → List Entry → List Entry → Type 0
-StoredTold alone entry number tables history more =
-    (tables.org.changes < number)
-    × (number ≤ Number tables (history ++ more) + 1)
-    × (admission (state tables (first tables (number - 1) (history ++ more))) entry ≡ None)
-    × (IsTrue alone → (more ≡ entry ∷ []) × (admission (state tables history) entry ≡ None) × (number ≡ Number tables (history ++ more)))
+-- it is accepted in this state and gained, and the number is that of the state then
+unfoldable pub StoredAlone : Tables → Entry → ℕ → List Entry → Type 0
+StoredAlone now entry number gain =
+    (admission now entry ≡ None) × (gain ≡ entry ∷ []) × (number ≡ (state now gain).org.changes)
 
--- the answer to a write
+-- ---- what a write is told
+
+-- The answer to a write. Where nobody else adds, the keeper fails only for an entry that is accepted.
 abbrev pub WriteTold : Bool → Entry → Result (Numbered Answer) WriteStop → Tables → List Entry → List Entry → Type 0
 WriteTold alone entry (Ok answer) tables history more =
     (tables.org.changes ≤ answer.number)
     × (answer.number ≤ Number tables (history ++ more))
     × Judged tables (first tables answer.number (history ++ more)) entry answer.value
-    × (IsTrue alone → JudgedAlone entry answer.number answer.value tables history more)
-WriteTold alone entry (Err KeeperFault) tables history more = IsTrue alone → more ≡ []
-WriteTold alone entry (Err (NoMemory (Some number))) tables history more = StoredTold alone entry number tables history more
+    × (IsTrue alone → JudgedAlone (state tables history) entry answer.number answer.value more)
+WriteTold alone entry (Err KeeperFault) tables history more =
+    IsTrue alone → (more ≡ []) × (admission (state tables history) entry ≡ None)
+WriteTold alone entry (Err (NoMemory (Some number))) tables history more =
+    IsStoredAt tables (history ++ more) number entry × (IsTrue alone → StoredAlone (state tables history) entry number more)
 WriteTold alone entry (Err (NoMemory None)) tables history more = IsTrue alone → more ≡ []
-
--- an answer to a write that isn't refused
-abbrev pub accepts : Answer → ℕ
-accepts (Refused refusal) = 0
-accepts value = 1
 
 -- how many writes were accepted or stored
 abbrev pub accepted_by : Result (Numbered Answer) WriteStop → ℕ

@@ -1,28 +1,25 @@
--- What a conversation comes to: the messages answered, the bytes written, its steps and its end.
-use Rattle.std.specs.Prelude.{◌≡◌, ◌≢◌, ℕ, ◌+◌, ◌-◌, ◌^◌, ◌<◌, ◌≤◌, ◌⊎◌, min, Bool, IsTrue, All, List, [], ◌∷◌, ◌++◌, flat_map, length, sum_by, Some, None}
+-- What a conversation comes to: the turns that it took, the bytes written, its steps and its end.
+use Rattle.std.specs.Prelude.{◌≡◌, ◌≢◌, ℕ, ◌+◌, ◌<◌, ◌≤◌, ◌⊎◌, Bool, IsTrue, All, List, [], ◌∷◌, ◌++◌, length, take, IfSome}
 use Rattle.std.specs.List.{concat}
 use Rattle.std.specs.declared.option.Option.{Option}
 use Rattle.std.specs.Io.KnownBytes.{Appends}
-use Rattle.iam_text.specs.declared.moment.Moment.{Moment}
+use Rattle.iam_outer.specs.Causes.{Rose}
 use Rattle.iam_outer.specs.declared.talk.Step.{Step}
-use Rattle.iam_outer.specs.declared.talk.Step.TheVariants.{Plain, Served, NoClock, NoKeeper, NoMemory}
+use Rattle.iam_outer.specs.declared.talk.Step.TheVariants.{Plain, NoClock}
 use Rattle.iam_outer.specs.declared.talk.TalkEnd.{TalkEnd}
-use Rattle.iam_outer.specs.declared.talk.TalkEnd.TheVariants.{Done, Cut, BadFrame, ReadFault, WriteFault, ClockFault, Enough, OutOfMemory}
-use Rattle.iam_names.specs.declared.caller.Caller.{Caller}
-use Rattle.iam_types.specs.declared.answer.Answer.{Answer}
+use Rattle.iam_outer.specs.declared.talk.TalkEnd.TheVariants.{Done, BadFrame, ReadFault, WriteFault, ClockFault, Enough, OutOfMemory}
 use Rattle.iam_types.specs.declared.command.Entry.{Entry}
 use Rattle.iam_types.specs.declared.tables.Tables.{Tables}
-use Rattle.iam_json.specs.declared.call.Call.{Call}
-use Rattle.iam_json.specs.declared.call.Call.TheVariants.{Write, Read}
+use Rattle.iam_law.specs.History.{state}
 use Rattle.iam_json.specs.declared.details.Details.TheVariants.{BadHead}
-use Rattle.iam_wire.specs.Messages.{Messages, BeginsWith, EndsAs, at_end, at_fault}
-use Rattle.iam_wire.specs.declared.message.Message.{Message}
-use Rattle.iam_routes.specs.Asked.{IsAsked}
-use Rattle.iam_routes.specs.declared.given.Asked.TheVariants.{Given}
-use Rattle.iam_answer.specs.Replies.{plain_reply, served_reply, no_memory_reply}
-use Rattle.iam_office.specs.Exchange.{AppendsPrefix}
-use Rattle.iam_office.specs.Office.{Number, Leads, accepts}
-use Rattle.iam_office.specs.Says.{Steps, InTurn}
+use Rattle.iam_wire.specs.Messages.{BeginsWith, EndsAs, at_fault}
+use Rattle.iam_answer.specs.Replies.{plain_reply, no_memory_reply}
+use Rattle.iam_office.specs.Accepted.{accepted_in}
+use Rattle.iam_office.specs.Handled.{AppendsPrefix}
+use Rattle.iam_office.specs.Office.{Number, Leads}
+use Rattle.iam_office.specs.Replied.{InTurn}
+use Rattle.iam_office.specs.Says.{AreSaid}
+use Rattle.iam_office.specs.Turns.{Turn, Rise, messages_of, replies_of, steps_of}
 
 -- more bytes are no input, and more messages aren't answered
 abbrev pub MOST_BYTES : ℕ
@@ -31,84 +28,29 @@ MOST_BYTES = 4194304
 abbrev pub MOST_MESSAGES : ℕ
 MOST_MESSAGES = 10000
 
--- ---- counts and moments
+-- ---- what the turns tell of an office
 
--- a count that stops at its last value rose by so many
-abbrev pub Rise : ℕ → ℕ → ℕ → Type 0
-Rise many before now = min (before + many) (2 ^ 64 - 1) ≤ now
+-- all that the turns came to, from this pair; where nobody else adds to the history, each in its turn
+abbrev pub Conversed : Bool → List Turn → Tables → List Entry → List Entry → Type 0
+Conversed alone turns tables history more =
+    AreSaid tables (history ++ more) (Number tables history) turns × (IsTrue alone → InTurn (state tables history) turns more)
 
-abbrev pub keeper_faults_of : Step → ℕ
-keeper_faults_of (NoKeeper moment) = 1
-keeper_faults_of Plain = 0
-keeper_faults_of (Served number moment) = 0
-keeper_faults_of NoClock = 0
-keeper_faults_of (NoMemory stored moment) = 0
+-- over an office, whose count of accepted writes rises by those among them
+abbrev pub Tells : {O : Type 0} → (O → Tables → List Entry → Type 0) → (O → ℕ) → Bool → O → O → List Turn → Type 0
+Tells stands accepted alone old new turns =
+    Leads stands old new (Conversed alone turns) × (accepted new ≡ accepted old + accepted_in turns)
 
-abbrev pub all_keeper_faults : List Step → ℕ
-all_keeper_faults steps = sum_by keeper_faults_of steps
+-- ---- what was written
 
-abbrev pub moments_of : Step → List Moment
-moments_of Plain = []
-moments_of (Served number moment) = moment ∷ []
-moments_of NoClock = []
-moments_of (NoKeeper moment) = moment ∷ []
-moments_of (NoMemory stored (Some moment)) = moment ∷ []
-moments_of (NoMemory stored None) = []
+-- all pieces before the last one were taken whole, and the first bytes of the last one
+abbrev pub CutAtTheLast : Option (List ℕ) → Option (List ℕ) → List (List ℕ) → Type 0
+CutAtTheLast before now pieces =
+    (front : List (List ℕ)) × (last : List ℕ) × (n : ℕ) × (pieces ≡ front ++ last ∷ []) × Appends before now (concat front ++ take n last)
 
-abbrev pub all_moments : List Step → List Moment
-all_moments steps = flat_map moments_of steps
-
--- ---- accepted writes
-
--- the count of accepted writes before a call and after it: it rises where the reply is that of an accepted write, or says that it is stored
-abbrev pub IsCountedTo : Call → Step → List ℕ → ℕ → ℕ → Type 0
-IsCountedTo (Read ask) step reply before now = now ≡ before
-IsCountedTo (Write command) (Served number moment) reply before now = (value : Answer) × (reply ≡ served_reply number moment value) × (now ≡ before + accepts value)
-IsCountedTo (Write command) (NoMemory (Some number) moment) reply before now = now ≡ before + 1
-IsCountedTo (Write command) (NoMemory None moment) reply before now = now ≡ before
-IsCountedTo (Write command) Plain reply before now = now ≡ before
-IsCountedTo (Write command) NoClock reply before now = now ≡ before
-IsCountedTo (Write command) (NoKeeper moment) reply before now = now ≡ before
-
--- the same of the call that the message gives
-abbrev pub IsCountedGiven : Message → Step → List ℕ → ℕ → ℕ → Type 0
-IsCountedGiven message step reply before now = (caller : Caller) × (call : Call) × IsAsked message (Given caller call) × IsCountedTo call step reply before now
-
--- the same of a message
-unfoldable pub IsCounted : Message → Step → List ℕ → ℕ → ℕ → Type 0
-IsCounted message (Served number moment) reply before now = IsCountedGiven message (Served number moment) reply before now
-IsCounted message (NoMemory (Some number) moment) reply before now = IsCountedGiven message (NoMemory (Some number) moment) reply before now
-IsCounted message (NoMemory None moment) reply before now = now ≡ before
-IsCounted message Plain reply before now = now ≡ before
-IsCounted message NoClock reply before now = now ≡ before
-IsCounted message (NoKeeper moment) reply before now = now ≡ before
-
--- the same of all messages
-unfoldable pub AreCounted : List Message → List Step → List (List ℕ) → ℕ → ℕ → Type 0
-AreCounted [] [] [] before now = now ≡ before
-AreCounted (message ∷ messages) (step ∷ steps) (reply ∷ replies) before now =
-    (mid : ℕ) × IsCounted message step reply before mid × AreCounted messages steps replies mid now
-AreCounted [] [] (reply ∷ replies) before now = ⊥
-AreCounted [] (step ∷ steps) replies before now = ⊥
-AreCounted (message ∷ messages) [] replies before now = ⊥
-AreCounted (message ∷ messages) (step ∷ steps) [] before now = ⊥
-
--- ---- what was answered
-
--- all that a conversation came to, from this pair
-abbrev pub Conversed : Bool → List Message → List Step → List (List ℕ) → Tables → List Entry → List Entry → Type 0
-Conversed alone messages steps replies tables history more =
-    Steps tables (history ++ more) (Number tables history) messages steps replies × (IsTrue alone → InTurn tables history messages steps replies more)
-
--- The first messages of the bytes were answered: what is left of them is rest, and Wrote holds of the bytes of the replies.
-pub record Answered {O : Type 0} (stands : O → Tables → List Entry → Type 0) (accepted : O → ℕ) (alone : Bool) (old new : O) (Wrote : List ℕ → Type 0) (bytes rest : List ℕ) (steps : List Step) : Type 0 where
-  pub messages : List Message
-  pub replies : List (List ℕ)
-  pub found : BeginsWith bytes messages rest
-  pub written : Wrote (concat replies)
-  pub conversed : Leads stands old new (Conversed alone messages steps replies)
-  pub count : AreCounted messages steps replies (accepted old) (accepted new)
-  pub each : (length messages ≡ length steps) × (length replies ≡ length steps)
+-- at a write fault the last piece was cut, and else all of them were taken whole
+abbrev pub WroteAt : TalkEnd → Option (List ℕ) → Option (List ℕ) → List (List ℕ) → Type 0
+WroteAt WriteFault before now pieces = CutAtTheLast before now pieces
+WroteAt end before now pieces = Appends before now (concat pieces)
 
 -- ---- how it ends
 
@@ -116,76 +58,97 @@ pub record Answered {O : Type 0} (stands : O → Tables → List Entry → Type 
 unfoldable pub HadClock : List Step → Type 0
 HadClock steps = All (λ step. step ≢ NoClock) steps
 
+-- it failed at the last of them alone
+abbrev pub LostClock : List Step → Type 0
+LostClock steps = (front : List Step) × (steps ≡ front ++ NoClock ∷ []) × HadClock front
+
 -- no message is at the front of what is left, or the whole input is too long
 abbrev pub IsFault : List ℕ → List Step → Type 0
 IsFault rest steps = EndsAs rest at_fault ⊎ ((steps ≡ []) × (MOST_BYTES < length rest))
 
--- where the messages end so
+-- where the messages end so: what is left of the input, how many were answered, and whether the clock failed
 abbrev pub EndsAt : TalkEnd → List ℕ → List Step → Type 0
-EndsAt Done rest steps = EndsAs rest at_end × (length steps < MOST_MESSAGES) × HadClock steps
+EndsAt Done rest steps = (rest ≡ []) × (length steps < MOST_MESSAGES) × HadClock steps
 EndsAt BadFrame rest steps = IsFault rest steps × (length steps < MOST_MESSAGES) × HadClock steps
 EndsAt Enough rest steps = (length steps ≡ MOST_MESSAGES) × HadClock steps
-EndsAt ClockFault rest steps = (front : List Step) × (steps ≡ front ++ NoClock ∷ []) × HadClock front
-EndsAt WriteFault rest steps = Unit {0}
+EndsAt ClockFault rest steps = LostClock steps
+EndsAt WriteFault rest steps = HadClock steps ⊎ LostClock steps
 EndsAt OutOfMemory rest steps = HadClock steps
-EndsAt ReadFault rest steps = ⊥
-EndsAt Cut rest steps = ⊥
+EndsAt end rest steps = ⊥
 
--- at a write fault a prefix was taken, and else all
-abbrev pub WroteAt : TalkEnd → Option (List ℕ) → Option (List ℕ) → List ℕ → Type 0
-WroteAt WriteFault old new bytes = AppendsPrefix old new bytes
-WroteAt Done old new bytes = Appends old new bytes
-WroteAt Cut old new bytes = Appends old new bytes
-WroteAt BadFrame old new bytes = Appends old new bytes
-WroteAt Enough old new bytes = Appends old new bytes
-WroteAt ClockFault old new bytes = Appends old new bytes
-WroteAt OutOfMemory old new bytes = Appends old new bytes
-WroteAt ReadFault old new bytes = Appends old new bytes
+-- nothing is written behind the replies
+abbrev pub IsBare : List Step → List (List ℕ) → List Step → Type 0
+IsBare steps tail trace = (tail ≡ []) × (trace ≡ steps)
 
--- what is written behind the replies of a conversation that ended so, and its trace
-abbrev pub Closes : TalkEnd → List ℕ → List Step → List ℕ → List Step → Type 0
-Closes Done rest steps tail trace = (trace ≡ steps) × (tail ≡ []) × EndsAt Done rest steps
-Closes Enough rest steps tail trace = (trace ≡ steps) × (tail ≡ []) × EndsAt Enough rest steps
-Closes ClockFault rest steps tail trace = (trace ≡ steps) × (tail ≡ []) × EndsAt ClockFault rest steps
-Closes BadFrame rest steps tail trace = (trace ≡ steps ++ Plain ∷ []) × (tail ≡ plain_reply BadHead) × EndsAt BadFrame rest steps
-Closes OutOfMemory rest steps tail trace = (trace ≡ steps) × (tail ≡ no_memory_reply) × EndsAt OutOfMemory rest steps
+-- the reply to what is no message is written behind them, with a step of its own
+abbrev pub IsFaultTold : List ℕ → List Step → List (List ℕ) → List Step → Type 0
+IsFaultTold rest steps tail trace = EndsAt BadFrame rest steps × (tail ≡ plain_reply BadHead ∷ []) × (trace ≡ steps ++ Plain ∷ [])
+
+-- the reply that takes no memory is written behind them
+abbrev pub IsMemoryTold : List ℕ → List Step → List (List ℕ) → List Step → Type 0
+IsMemoryTold rest steps tail trace = EndsAt OutOfMemory rest steps × (tail ≡ no_memory_reply ∷ []) × (trace ≡ steps)
+
+-- how a conversation ends so, what is written behind its replies, and its trace
+abbrev pub Closes : TalkEnd → List ℕ → List Step → List (List ℕ) → List Step → Type 0
+Closes BadFrame rest steps tail trace = IsFaultTold rest steps tail trace
+Closes OutOfMemory rest steps tail trace = IsMemoryTold rest steps tail trace
 Closes WriteFault rest steps tail trace =
-    ((trace ≡ steps) × (tail ≡ []))
-    ⊎ (((trace ≡ steps) × (tail ≡ no_memory_reply) × EndsAt OutOfMemory rest steps)
-    ⊎ ((trace ≡ steps ++ Plain ∷ []) × (tail ≡ plain_reply BadHead) × EndsAt BadFrame rest steps))
-Closes ReadFault rest steps tail trace = (trace ≡ []) × (steps ≡ []) × (tail ≡ [])
-Closes Cut rest steps tail trace = ⊥
+    (EndsAt WriteFault rest steps × IsBare steps tail trace) ⊎ (IsMemoryTold rest steps tail trace ⊎ IsFaultTold rest steps tail trace)
+Closes ReadFault rest steps tail trace = (steps ≡ []) × IsBare steps tail trace
+Closes end rest steps tail trace = EndsAt end rest steps × IsBare steps tail trace
 
--- behind the replies of a conversation that would end so
-abbrev pub Finishes : TalkEnd → TalkEnd → Option (List ℕ) → Option (List ℕ) → List Step → List Step → Type 0
-Finishes end result before now steps trace = (tail : List ℕ)
-    × ((first : Option (List ℕ)) (bytes : List ℕ) → WroteAt end first before bytes → WroteAt result first now (bytes ++ tail))
-    × ((rest : List ℕ) → EndsAt end rest steps → Closes result rest steps tail trace)
+-- ---- the whole
 
--- in an input that is too long no message is answered
-abbrev pub Fits : List ℕ → List Step → Type 0
-Fits bytes steps = (steps ≡ []) ⊎ (length bytes ≤ MOST_BYTES)
-
--- A whole conversation over an input: what was answered of it, what was written behind the replies, and how it ended.
-pub record Talked {O : Type 0} (stands : O → Tables → List Entry → Type 0) (accepted : O → ℕ) (alone : Bool) (old new : O) (before now : Option (List ℕ)) (bytes : List ℕ) (end : TalkEnd) (trace : List Step) : Type 0 where
-  pub steps : List Step
+-- A conversation over an input: its first messages were answered in these turns, of which Told holds, and this is what was left of it, what was
+-- written, and how it ended. In an input that is too long no message is answered.
+pub record Talked (Told : List Turn → Type 0) (before now : Option (List ℕ)) (input : List ℕ) (end : TalkEnd) (trace : List Step) : Type 0 where
+  pub turns : List Turn
   pub rest : List ℕ
-  pub tail : List ℕ
-  pub answered : Answered stands accepted alone old new (λ written. WroteAt end before now (written ++ tail)) bytes rest steps
-  pub fits : Fits bytes steps
-  pub closes : Closes end rest steps tail trace
+  pub tail : List (List ℕ)
+  pub told : Told turns
+  pub found : BeginsWith input (messages_of turns) rest
+  pub fits : (turns ≡ []) ⊎ (length input ≤ MOST_BYTES)
+  pub most : length turns ≤ MOST_MESSAGES
+  pub written : WroteAt end before now (replies_of turns ++ tail)
+  pub closes : Closes end rest (steps_of turns) tail trace
 
--- ---- laws
+-- it holds of an input, which is the line's where the line tells it
+abbrev pub OfInput : Option (List ℕ) → (List ℕ → Type 0) → Type 0
+OfInput left P = (input : List ℕ) × IfSome left (λ told. input ≡ told) × P input
 
--- where it ended between messages, all messages of the input were answered
-abbrev pub DoneWithAll : Type 0
-DoneWithAll =
-    (bytes : List ℕ) (messages : List Message) (rest : List ℕ) (steps : List Step)
-    → BeginsWith bytes messages rest → EndsAt Done rest steps → Messages bytes messages at_end
+-- a fault ends it only where its count rose
+pub record Caused (end : TalkEnd) (reads read_later writes write_later clocks clock_later : ℕ) : Type 0 where
+  pub read : end ≡ ReadFault → Rose reads read_later
+  pub write : end ≡ WriteFault → Rose writes write_later
+  pub clock : end ≡ ClockFault → Rose clocks clock_later
 
--- where it ended at a fault, all messages before it were answered, or the input is too long
-abbrev pub FaultBehindAll : Type 0
-FaultBehindAll =
-    (bytes : List ℕ) (messages : List Message) (rest : List ℕ) (steps : List Step)
-    → BeginsWith bytes messages rest → length messages ≡ length steps → EndsAt BadFrame rest steps
-    → Messages bytes messages at_fault ⊎ ((messages ≡ []) × (MOST_BYTES < length bytes))
+-- ---- on the way
+
+-- The first messages of the bytes were answered in turns of which Told holds: what is left of the bytes is rest, and Wrote holds of the replies.
+pub record Answered (Told : List Turn → Type 0) (Wrote : List (List ℕ) → Type 0) (bytes rest : List ℕ) (steps : List Step) : Type 0 where
+  pub turns : List Turn
+  pub told : Told turns
+  pub found : BeginsWith bytes (messages_of turns) rest
+  pub steps_are : steps ≡ steps_of turns
+  pub written : Wrote (replies_of turns)
+
+-- a last piece was taken whole, and the conversation ends so, or the line failed
+abbrev pub EndsWith : TalkEnd → List ℕ → Option (List ℕ) → Option (List ℕ) → ℕ → ℕ → TalkEnd → Type 0
+EndsWith end piece before now faults later result =
+    ((result ≡ end) × Appends before now piece × Rise 0 faults later)
+    ⊎ ((result ≡ WriteFault) × AppendsPrefix before now piece × Rise 1 faults later)
+
+-- behind the replies of a conversation whose messages end so
+pub record Finishes (end result : TalkEnd) (before now : Option (List ℕ)) (steps trace : List Step) : Type 0 where
+  pub tail : List (List ℕ)
+  pub written : (first : Option (List ℕ)) (pieces : List (List ℕ)) → WroteAt end first before pieces → WroteAt result first now (pieces ++ tail)
+  pub closes : (rest : List ℕ) → EndsAt end rest steps → Closes result rest steps tail trace
+
+-- one step more, which has no moment and is no fault, or none
+abbrev pub AddsPlain : List Step → List Step → Type 0
+AddsPlain steps trace = (trace ≡ steps) ⊎ (trace ≡ steps ++ Plain ∷ [])
+
+-- how often writing failed at this end
+abbrev pub failed_writes : TalkEnd → ℕ
+failed_writes WriteFault = 1
+failed_writes end = 0

@@ -3,7 +3,7 @@ ghost use Rattle.std.specs.Prelude.{◌≡◌, ◌<◌, ◌≤◌, ◌+◌, ◌^
 ghost use Rattle.std.specs.Io.{StartsWith, appended_bytes};
 ghost use Rattle.std.specs.Io.KnownBytes.{Appends, Consumes, IsAtEnd};
 ghost use Rattle.iam_outer.specs.Causes.{HasCause, Rose};
-ghost use Rattle.iam_office.specs.Exchange.{AppendsPrefix};
+ghost use Rattle.iam_office.specs.Handled.{AppendsPrefix};
 
 use iam_outer::{Failed, Line, List, receive, send};
 use std::alloc::Global;
@@ -66,8 +66,6 @@ pub fn send_all<L: Line>(line: &mut L, bytes: &[u8]) -> Result<(), Failed>
     ensures ok { OnOk result (Appends (L.taken line.old) (L.taken line.new) bytes.now) }
     ensures err { OnErr result (AppendsPrefix (L.taken line.old) (L.taken line.new) bytes.now) }
     ensures cause { HasCause (L.write_faults line.old) (L.write_faults line.new) result }
-    ensures left { L.left line.new ≡ L.left line.old }
-    ensures read_faults { L.read_faults line.new ≡ L.read_faults line.old }
 {
     let mut at = 0;
     while at < bytes.len() {

@@ -1,24 +1,26 @@
 // One message over an office.
-ghost use Rattle.std.specs.Prelude.{◌≡◌, ◌≤◌, [], ◌∷◌, Some};
+ghost use Rattle.std.specs.Prelude.{◌≡◌, ◌∷◌, [], Some, None};
 ghost use Rattle.std.specs.Bool.{MatchBool};
-ghost use Rattle.iam_answer.specs.Replies.{no_memory_reply as fixed_reply, stored_reply};
+ghost use Rattle.iam_answer.specs.Answer.{accepts};
 ghost use Rattle.iam_json.specs.Refusals.{line_of};
 ghost use Rattle.iam_model.specs.Commands.{IsEntry, IsCommand};
 ghost use Rattle.iam_names.specs.Caller.{IsCaller};
-ghost use Rattle.iam_outer.specs.Causes.{Rose};
-ghost use Rattle.iam_outer.specs.Given.{AppendsMoments};
-ghost use Rattle.iam_office.specs.Office.{Leads, accepts};
-ghost use Rattle.iam_office.specs.Says.{Answers, AnswersTo, SaysPlainly, SaysNoKeeper, IsShown, IsStopped, reply_of};
-ghost use Rattle.iam_office.specs.Talks.{IsCounted, IsCountedTo, Rise, moments_of, keeper_faults_of};
+ghost use Rattle.iam_routes.specs.Asked.{IsAsked};
+ghost use Rattle.iam_routes.specs.declared.given.Asked.{Asked as AnAsking};
+ghost use Rattle.iam_wire.specs.declared.message.Message.{Message as AMessage};
+ghost use Rattle.iam_office.specs.Asks.{AsksRead, AsksWrite};
+ghost use Rattle.iam_office.specs.Handled.{Handled};
+ghost use Rattle.iam_office.specs.Replying.{IsShown, IsStopped, IsTimed, SaysNoKeeper, SaysNoMemory, SaysPlainly, SaysStored, reply_of};
+ghost use Rattle.iam_office.specs.Turns.{Clocked, Rise, keeper_faults_of};
 
 use crate::office::{Numbered, Office, WriteStop};
 use iam_answer::{keeper_reply, plain_reply, served_reply};
 use iam_json::{Call, Details, ErrorReply};
 use iam_names::Caller;
 use iam_outer::{Clock, Step};
-use iam_routes::{Asked, asked};
+use iam_routes::{Asked, Routes, asked};
 use iam_tables::{Answer, Ask, Command, Entry};
-use iam_text::{List, Moment};
+use iam_text::{List, Moment, let_go};
 use iam_wire::Message;
 use std::alloc::Global;
 
@@ -30,13 +32,9 @@ pub struct Told {
     pub reply: Option<List<u8>>,
 }
 
-/// Drops a value. A function that drops it by itself has a branch for each kind of the value.
-pub fn let_go<T: Drop>(_value: T) {}
-
 // Memory was refused, and nothing was stored.
 fn no_memory(moment: Option<Moment>) -> Told
-    ensures step { result.step ≡ Step.NoMemory None moment }
-    ensures reply { reply_of result.step result.reply ≡ fixed_reply }
+    ensures { SaysNoMemory moment result.step (reply_of result.step result.reply) }
 {
     Told {
         step: Step::NoMemory {
@@ -73,8 +71,7 @@ fn no_clock(alloc: Global) -> Told
 
 // Memory was refused to the reply of the write of this number, which is stored.
 fn stored(number: u64, moment: Moment) -> Told
-    ensures step { result.step ≡ Step.NoMemory (Some number) (Some moment) }
-    ensures reply { reply_of result.step result.reply ≡ stored_reply number }
+    ensures { SaysStored number moment result.step (reply_of result.step result.reply) }
 {
     Told {
         step: Step::NoMemory {
@@ -106,12 +103,9 @@ fn read<O: Office>(
     ask: &Ask,
     moment: Moment,
 ) -> Told
-    ensures answers { Leads O.stands office.old office.new (AnswersTo O.alone caller.now (Call.Read ask.now) result.step (reply_of result.step result.reply)) }
-    ensures faults { keeper_faults_of result.step ≡ 0 }
-    ensures moments { moments_of result.step ≡ moment ∷ [] }
-    ensures clock { result.step ≡ Step.NoClock → ⊥ }
-    ensures later { O.office_faults office.old ≤ O.office_faults office.new }
-    ensures accepted { O.accepted office.new ≡ O.accepted office.old }
+    ensures handled { (message : AMessage) → AsksRead message caller.now ask.now → Handled O.stands O.accepted O.alone office.old office.new message result.step (reply_of result.step result.reply) }
+    ensures timed { IsTimed moment result.step }
+    ensures faults { Rise (keeper_faults_of result.step) (O.office_faults office.old) (O.office_faults office.new) }
     ensures same { O.same office.old office.new }
 {
     let Ok(answer) = office.read(alloc, ask, caller, moment) else {
@@ -137,13 +131,9 @@ fn serve<O: Office, C: Clock>(
     caller: &Caller,
     ask: &Ask,
 ) -> Told
-    ensures answers { Leads O.stands office.old office.new (AnswersTo O.alone caller.now (Call.Read ask.now) result.step (reply_of result.step result.reply)) }
-    ensures faults { keeper_faults_of result.step ≡ 0 }
-    ensures moments { AppendsMoments (C.given clock.old) (C.given clock.new) (moments_of result.step) }
-    ensures clock_later { C.clock_faults clock.old ≤ C.clock_faults clock.new }
-    ensures clock_fault { result.step ≡ Step.NoClock → Rose (C.clock_faults clock.old) (C.clock_faults clock.new) }
-    ensures later { O.office_faults office.old ≤ O.office_faults office.new }
-    ensures accepted { O.accepted office.new ≡ O.accepted office.old }
+    ensures handled { (message : AMessage) → AsksRead message caller.now ask.now → Handled O.stands O.accepted O.alone office.old office.new message result.step (reply_of result.step result.reply) }
+    ensures clock { Clocked (C.given clock.old) (C.given clock.new) (C.clock_faults clock.old) (C.clock_faults clock.new) (result.step ∷ []) }
+    ensures faults { Rise (keeper_faults_of result.step) (O.office_faults office.old) (O.office_faults office.new) }
     ensures same { O.same office.old office.new }
 {
     match clock.now() {
@@ -200,10 +190,9 @@ fn stop(alloc: Global, stop: WriteStop, moment: Moment) -> Told
 // A write at its moment.
 fn write<O: Office>(alloc: Global, office: &mut O, entry: Entry) -> Told
     requires { IsEntry entry }
-    ensures answers { Leads O.stands office.old office.new (AnswersTo O.alone entry.caller (Call.Write entry.command) result.step (reply_of result.step result.reply)) }
+    ensures handled { (message : AMessage) → AsksWrite message entry → Handled O.stands O.accepted O.alone office.old office.new message result.step (reply_of result.step result.reply) }
+    ensures timed { IsTimed entry.moment result.step }
     ensures faults { Rise (keeper_faults_of result.step) (O.office_faults office.old) (O.office_faults office.new) }
-    ensures moments { moments_of result.step ≡ entry.moment ∷ [] }
-    ensures accepted { IsCountedTo (Call.Write entry.command) result.step (reply_of result.step result.reply) (O.accepted office.old) (O.accepted office.new) }
     ensures same { O.same office.old office.new }
 {
     let moment = entry.moment;
@@ -223,12 +212,9 @@ fn serve_write<O: Office, C: Clock>(
 ) -> Told
     requires caller { IsCaller caller }
     requires command { IsCommand command }
-    ensures answers { Leads O.stands office.old office.new (AnswersTo O.alone caller (Call.Write command) result.step (reply_of result.step result.reply)) }
+    ensures handled { (message : AMessage) → IsAsked message (AnAsking.Given caller (Call.Write command)) → Handled O.stands O.accepted O.alone office.old office.new message result.step (reply_of result.step result.reply) }
+    ensures clock { Clocked (C.given clock.old) (C.given clock.new) (C.clock_faults clock.old) (C.clock_faults clock.new) (result.step ∷ []) }
     ensures faults { Rise (keeper_faults_of result.step) (O.office_faults office.old) (O.office_faults office.new) }
-    ensures moments { AppendsMoments (C.given clock.old) (C.given clock.new) (moments_of result.step) }
-    ensures clock_later { C.clock_faults clock.old ≤ C.clock_faults clock.new }
-    ensures clock_fault { result.step ≡ Step.NoClock → Rose (C.clock_faults clock.old) (C.clock_faults clock.new) }
-    ensures accepted { IsCountedTo (Call.Write command) result.step (reply_of result.step result.reply) (O.accepted office.old) (O.accepted office.new) }
     ensures same { O.same office.old office.new }
 {
     match clock.now() {
@@ -254,17 +240,15 @@ pub fn handle<O: Office, C: Clock>(
     alloc: Global,
     office: &mut O,
     clock: &mut C,
+    routes: &Routes,
     message: &Message,
 ) -> Told
-    ensures answers { Leads O.stands office.old office.new (Answers O.alone message.now result.step (reply_of result.step result.reply)) }
+    ensures handled { Handled O.stands O.accepted O.alone office.old office.new message.now result.step (reply_of result.step result.reply) }
+    ensures clock { Clocked (C.given clock.old) (C.given clock.new) (C.clock_faults clock.old) (C.clock_faults clock.new) (result.step ∷ []) }
     ensures faults { Rise (keeper_faults_of result.step) (O.office_faults office.old) (O.office_faults office.new) }
-    ensures moments { AppendsMoments (C.given clock.old) (C.given clock.new) (moments_of result.step) }
-    ensures clock_later { C.clock_faults clock.old ≤ C.clock_faults clock.new }
-    ensures clock_fault { result.step ≡ Step.NoClock → Rose (C.clock_faults clock.old) (C.clock_faults clock.new) }
-    ensures accepted { IsCounted message.now result.step (reply_of result.step result.reply) (O.accepted office.old) (O.accepted office.new) }
     ensures same { O.same office.old office.new }
 {
-    match asked(alloc, message) {
+    match asked(alloc, message, routes) {
         Ok(Asked::Refused(error)) => {
             let told = refuse(alloc, Step::Plain, &error);
             let_go(error);

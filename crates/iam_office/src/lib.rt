@@ -15,6 +15,5 @@ mod talking;
 mod telling;
 
 pub use conversing::converse;
-pub use exchange::{ReadStop, read_all, send_all};
-pub use laws::{all_are_answered, replies_follow, writes_are_accepted};
+pub use laws::{all_are_answered, replies_follow};
 pub use office::{FloorStop, Numbered, Office, WriteStop};

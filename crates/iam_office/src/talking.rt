@@ -1,13 +1,13 @@
 // The messages of an input, one after another.
 ghost use Rattle.std.specs.Prelude.{◌≡◌, ◌<◌, ◌≤◌, ◌-◌, [], List as Items, ℕ, drop, length, slice_set};
-ghost use Rattle.iam_outer.specs.Causes.{Rose};
-ghost use Rattle.iam_outer.specs.Given.{AppendsMoments};
-ghost use Rattle.iam_office.specs.Talks.{Answered, EndsAt, WroteAt, Rise, all_keeper_faults, all_moments};
+ghost use Rattle.iam_office.specs.Talks.{Answered, EndsAt, MOST_MESSAGES as most_messages, Tells, WroteAt, failed_writes};
+ghost use Rattle.iam_office.specs.Turns.{Clocked, Rise, all_keeper_faults};
 
-use crate::handling::let_go;
 use crate::office::Office;
 use crate::telling::turn;
 use iam_outer::{Clock, Line, List, Step, TalkEnd};
+use iam_routes::Routes;
+use iam_text::let_go;
 use iam_wire::next_plain;
 use std::alloc::Global;
 
@@ -37,19 +37,16 @@ pub fn answer_all<O: Office, L: Line, C: Clock>(
     office: &mut O,
     line: &mut L,
     clock: &mut C,
+    routes: &Routes,
     bytes: &[u8],
     trace: &mut List<Step>,
 ) -> TalkEnd
     requires { trace.old ≡ [] }
-    ensures answered { (rest : Items ℕ) × Answered O.stands O.accepted O.alone office.old office.new (WroteAt result (L.taken line.old) (L.taken line.new)) bytes.now rest trace.new × EndsAt result rest trace.new }
+    ensures answered { (rest : Items ℕ) × Answered (Tells O.stands O.accepted O.alone office.old office.new) (WroteAt result (L.taken line.old) (L.taken line.new)) bytes.now rest trace.new × EndsAt result rest trace.new × (length trace.new ≤ most_messages) }
+    ensures clock { Clocked (C.given clock.old) (C.given clock.new) (C.clock_faults clock.old) (C.clock_faults clock.new) trace.new }
     ensures faults { Rise (all_keeper_faults trace.new) (O.office_faults office.old) (O.office_faults office.new) }
+    ensures writes { Rise (failed_writes result) (L.write_faults line.old) (L.write_faults line.new) }
     ensures same { O.same office.old office.new }
-    ensures moments { AppendsMoments (C.given clock.old) (C.given clock.new) (all_moments trace.new) }
-    ensures clock_fault { result ≡ TalkEnd.ClockFault → Rose (C.clock_faults clock.old) (C.clock_faults clock.new) }
-    ensures write_fault { result ≡ TalkEnd.WriteFault → Rose (L.write_faults line.old) (L.write_faults line.new) }
-    ensures write_later { L.write_faults line.old ≤ L.write_faults line.new }
-    ensures left { L.left line.new ≡ L.left line.old }
-    ensures read_faults { L.read_faults line.new ≡ L.read_faults line.old }
 {
     let mut rest = bytes;
     while trace.len() < MOST_MESSAGES {
@@ -65,7 +62,7 @@ pub fn answer_all<O: Office, L: Line, C: Clock>(
             let_go(found);
             return TalkEnd::OutOfMemory;
         };
-        let said = turn(alloc, office, line, clock, &found.message);
+        let said = turn(alloc, office, line, clock, routes, &found.message);
         put_last(trace, said.step);
         rest = behind(rest, found.size);
         let_go(found);

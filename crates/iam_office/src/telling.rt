@@ -1,20 +1,17 @@
 // One message, and the writing of its reply.
-ghost use Rattle.std.specs.Prelude.{◌≡◌, ◌≤◌};
-ghost use Rattle.std.specs.Bool.{OnTrue, OnFalse};
-ghost use Rattle.std.specs.Io.KnownBytes.{Appends};
+ghost use Rattle.std.specs.Prelude.{◌∷◌, []};
 ghost use Rattle.iam_answer.specs.Replies.{no_memory_reply as fixed_reply, stored_reply};
-ghost use Rattle.iam_outer.specs.Causes.{Rose};
-ghost use Rattle.iam_outer.specs.Given.{AppendsMoments};
-ghost use Rattle.iam_office.specs.Exchange.{AppendsPrefix};
-ghost use Rattle.iam_office.specs.Says.{reply_of as the_reply};
-ghost use Rattle.iam_office.specs.Talks.{Rise, moments_of, keeper_faults_of};
-ghost use Rattle.iam_office.specs.Turns.{Turned};
+ghost use Rattle.iam_office.specs.Handled.{Sent, Turned};
+ghost use Rattle.iam_office.specs.Replying.{reply_of as the_reply};
+ghost use Rattle.iam_office.specs.Turns.{Clocked, Rise, keeper_faults_of};
 
 use crate::exchange::send_all;
-use crate::handling::{Told, handle, let_go};
+use crate::handling::{Told, handle};
 use crate::office::Office;
 use iam_answer::{StoredReply, no_memory_reply};
 use iam_outer::{Clock, Line, Step};
+use iam_routes::Routes;
+use iam_text::let_go;
 use iam_wire::Message;
 use std::alloc::Global;
 
@@ -27,12 +24,7 @@ pub struct Said {
 
 /// Writes bytes, and says whether all were taken.
 pub fn send<L: Line>(line: &mut L, bytes: &[u8]) -> bool
-    ensures sent { OnTrue result (Appends (L.taken line.old) (L.taken line.new) bytes.now) }
-    ensures cut { OnFalse result (AppendsPrefix (L.taken line.old) (L.taken line.new) bytes.now) }
-    ensures write_later { L.write_faults line.old ≤ L.write_faults line.new }
-    ensures write_fault { OnFalse result (Rose (L.write_faults line.old) (L.write_faults line.new)) }
-    ensures left { L.left line.new ≡ L.left line.old }
-    ensures read_faults { L.read_faults line.new ≡ L.read_faults line.old }
+    ensures { Sent (L.taken line.old) (L.taken line.new) (L.write_faults line.old) (L.write_faults line.new) bytes.now result }
 {
     match send_all(line, bytes) {
         Ok(()) => true,
@@ -40,26 +32,16 @@ pub fn send<L: Line>(line: &mut L, bytes: &[u8]) -> bool
     }
 }
 
-/// Writes the reply that takes no memory, and says whether it was taken whole.
-pub fn send_no_memory<L: Line>(line: &mut L) -> bool
-    ensures sent { OnTrue result (Appends (L.taken line.old) (L.taken line.new) fixed_reply) }
-    ensures cut { OnFalse result (AppendsPrefix (L.taken line.old) (L.taken line.new) fixed_reply) }
-    ensures write_later { L.write_faults line.old ≤ L.write_faults line.new }
-    ensures write_fault { OnFalse result (Rose (L.write_faults line.old) (L.write_faults line.new)) }
-    ensures left { L.left line.new ≡ L.left line.old }
-    ensures read_faults { L.read_faults line.new ≡ L.read_faults line.old }
+// Writes the reply that takes no memory, and says whether it was taken whole.
+fn send_no_memory<L: Line>(line: &mut L) -> bool
+    ensures { Sent (L.taken line.old) (L.taken line.new) (L.write_faults line.old) (L.write_faults line.new) fixed_reply result }
 {
     send(line, no_memory_reply())
 }
 
 // Writes that the change of this number is stored, and says whether all was taken.
 fn send_stored<L: Line>(line: &mut L, number: u64) -> bool
-    ensures sent { OnTrue result (Appends (L.taken line.old) (L.taken line.new) (stored_reply number)) }
-    ensures cut { OnFalse result (AppendsPrefix (L.taken line.old) (L.taken line.new) (stored_reply number)) }
-    ensures write_later { L.write_faults line.old ≤ L.write_faults line.new }
-    ensures write_fault { OnFalse result (Rose (L.write_faults line.old) (L.write_faults line.new)) }
-    ensures left { L.left line.new ≡ L.left line.old }
-    ensures read_faults { L.read_faults line.new ≡ L.read_faults line.old }
+    ensures { Sent (L.taken line.old) (L.taken line.new) (L.write_faults line.old) (L.write_faults line.new) (stored_reply number) result }
 {
     let mut reply = StoredReply::new();
     send(line, reply.bytes(number))
@@ -67,12 +49,7 @@ fn send_stored<L: Line>(line: &mut L, number: u64) -> bool
 
 // Writes the reply that was made, or the one that takes no memory, and says whether all was taken.
 fn send_reply<L: Line>(line: &mut L, told: &Told) -> bool
-    ensures sent { OnTrue result (Appends (L.taken line.old) (L.taken line.new) (the_reply told.now.step told.now.reply)) }
-    ensures cut { OnFalse result (AppendsPrefix (L.taken line.old) (L.taken line.new) (the_reply told.now.step told.now.reply)) }
-    ensures write_later { L.write_faults line.old ≤ L.write_faults line.new }
-    ensures write_fault { OnFalse result (Rose (L.write_faults line.old) (L.write_faults line.new)) }
-    ensures left { L.left line.new ≡ L.left line.old }
-    ensures read_faults { L.read_faults line.new ≡ L.read_faults line.old }
+    ensures { Sent (L.taken line.old) (L.taken line.new) (L.write_faults line.old) (L.write_faults line.new) (the_reply told.now.step told.now.reply) result }
 {
     match (&told.reply, told.step) {
         (Some(bytes), _) => send(line, bytes.as_slice()),
@@ -93,20 +70,15 @@ pub fn turn<O: Office, L: Line, C: Clock>(
     office: &mut O,
     line: &mut L,
     clock: &mut C,
+    routes: &Routes,
     message: &Message,
 ) -> Said
-    ensures turned { Turned O.stands O.accepted O.alone office.old office.new (L.taken line.old) (L.taken line.new) message.now result.step result.sent }
+    ensures turned { Turned O.stands O.accepted O.alone office.old office.new (L.taken line.old) (L.taken line.new) (L.write_faults line.old) (L.write_faults line.new) message.now result.step result.sent }
+    ensures clock { Clocked (C.given clock.old) (C.given clock.new) (C.clock_faults clock.old) (C.clock_faults clock.new) (result.step ∷ []) }
     ensures faults { Rise (keeper_faults_of result.step) (O.office_faults office.old) (O.office_faults office.new) }
     ensures same { O.same office.old office.new }
-    ensures moments { AppendsMoments (C.given clock.old) (C.given clock.new) (moments_of result.step) }
-    ensures clock_later { C.clock_faults clock.old ≤ C.clock_faults clock.new }
-    ensures clock_fault { result.step ≡ Step.NoClock → Rose (C.clock_faults clock.old) (C.clock_faults clock.new) }
-    ensures write_later { L.write_faults line.old ≤ L.write_faults line.new }
-    ensures write_fault { OnFalse result.sent (Rose (L.write_faults line.old) (L.write_faults line.new)) }
-    ensures left { L.left line.new ≡ L.left line.old }
-    ensures read_faults { L.read_faults line.new ≡ L.read_faults line.old }
 {
-    let told = handle(alloc, office, clock, message);
+    let told = handle(alloc, office, clock, routes, message);
     let step = told.step;
     let sent = send_reply(line, &told);
     let_go(told);

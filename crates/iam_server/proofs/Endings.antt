@@ -2,31 +2,35 @@
 use Rattle.std.proofs.Common.{◌≡◌, refl}
 use Rattle.iam_outer.specs.declared.talk.TalkEnd.{TalkEnd}
 use Rattle.iam_outer.specs.declared.talk.TalkEnd.TheVariants.{Done, Cut, BadFrame, ReadFault, WriteFault, ClockFault, Enough, OutOfMemory}
-use Rattle.iam_server.specs.declared.ends.Status.{Status}
 use Rattle.iam_server.specs.declared.ends.Status.TheVariants as status
-use Rattle.iam_server.specs.Run.{status_of, EndsTalking, CanEnd}
+use Rattle.iam_server.specs.Run.{status_of}
 
--- as a conversation that isn't cut
-pub ends_talking : (end : TalkEnd) → (end ≡ Cut → ⊥) → EndsTalking (status_of end)
-ends_talking Done whole = tt
-ends_talking Cut whole = absurd (whole refl)
-ends_talking BadFrame whole = tt
-ends_talking ReadFault whole = tt
-ends_talking WriteFault whole = tt
-ends_talking ClockFault whole = tt
-ends_talking Enough whole = tt
-ends_talking OutOfMemory whole = tt
+pub read_end : (end : TalkEnd) → status_of end ≡ status.ReadFault → end ≡ ReadFault
+read_end ReadFault is = refl
+read_end Done is = cc
+read_end Cut is = cc
+read_end BadFrame is = cc
+read_end WriteFault is = cc
+read_end ClockFault is = cc
+read_end Enough is = cc
+read_end OutOfMemory is = cc
 
--- a run whose conversation began ends in one of the ways in which a run can end
-pub talking_can_end : (s : Status) → EndsTalking s → CanEnd s
-talking_can_end status.Done ends = tt
-talking_can_end status.ReadFault ends = tt
-talking_can_end status.WriteFault ends = tt
-talking_can_end status.ClockFault ends = tt
-talking_can_end status.Enough ends = tt
-talking_can_end status.BadFrame ends = tt
-talking_can_end status.OutOfMemory ends = tt
-talking_can_end status.Words ends = absurd ends
-talking_can_end (status.Rows fault) ends = absurd ends
-talking_can_end status.Keeper ends = absurd ends
-talking_can_end status.Cut ends = absurd ends
+pub write_end : (end : TalkEnd) → status_of end ≡ status.WriteFault → end ≡ WriteFault
+write_end WriteFault is = refl
+write_end Done is = cc
+write_end Cut is = cc
+write_end BadFrame is = cc
+write_end ReadFault is = cc
+write_end ClockFault is = cc
+write_end Enough is = cc
+write_end OutOfMemory is = cc
+
+pub clock_end : (end : TalkEnd) → status_of end ≡ status.ClockFault → end ≡ ClockFault
+clock_end ClockFault is = refl
+clock_end Done is = cc
+clock_end Cut is = cc
+clock_end BadFrame is = cc
+clock_end ReadFault is = cc
+clock_end WriteFault is = cc
+clock_end Enough is = cc
+clock_end OutOfMemory is = cc

@@ -1,16 +1,13 @@
 // One run of the program.
-ghost use Rattle.std.specs.Prelude.{◌≡◌, ◌⊎◌, [], IfOk, IfSome};
+ghost use Rattle.std.specs.Prelude.{◌≡◌, ◌⊎◌, [], IfSome};
 ghost use Rattle.std.specs.declared.option.Option.{Option as Opt};
-ghost use Rattle.iam_law.specs.Good.{Good};
 ghost use Rattle.iam_model.specs.Opening.{IsOpening};
 ghost use Rattle.iam_outer.specs.Causes.{Rose};
-ghost use Rattle.iam_outer.specs.Given.{AppendsMoments};
-ghost use Rattle.iam_office.specs.Talks.{Rise, all_keeper_faults, all_moments};
-ghost use Rattle.iam_lone.specs.Ran.{KeptFrom};
+ghost use Rattle.iam_office.specs.Turns.{Clocked, Rise, all_keeper_faults};
 ghost use Rattle.iam_rows.specs.Kept.{KeepsTables};
 ghost use Rattle.iam_types.specs.declared.tables.Opening.{Opening as AnOpening};
 ghost use Rattle.iam_server.specs.Plan.{IsPlan};
-ghost use Rattle.iam_server.specs.Run.{status_of as its_status, TalkedFrom, RanFrom, EndsUnread, EndsUnopened, EndsTalking, CanEnd};
+ghost use Rattle.iam_server.specs.Run.{status_of as its_status, TalkedFrom, TalkedOpened, EndsUnread, EndsUnopened};
 ghost use Rattle.iam_server.specs.declared.plan.Plan.{Plan};
 
 use crate::plan::{Plan, PlanStop, plan_of};
@@ -18,8 +15,8 @@ use crate::{RunEnd, Status};
 use iam_judge::Index;
 use iam_keeping::{OpenStop, open};
 use iam_lone::converse_alone;
-use iam_outer::{Clock, Keeper, Line, List, OutOfMemory, TalkEnd, Text, Zones};
-use iam_tables::{Catalogue, Opening, Tables};
+use iam_outer::{Clock, Keeper, Line, List, TalkEnd, Text, Zones};
+use iam_tables::{Catalogue, Opening};
 use std::alloc::Global;
 
 fn status_of(end: TalkEnd) -> Status
@@ -56,24 +53,7 @@ fn early(alloc: Global, status: Status) -> RunEnd
     }
 }
 
-// The index over good tables.
-fn index_of(
-    alloc: Global,
-    tables: Tables,
-    catalogue: Catalogue,
-    zones: Zones,
-) -> Result<Index, OutOfMemory>
-    requires { Good tables }
-    ensures { IfOk result (λ index. index ≡ tables) }
-{
-    match Index::build(alloc, tables, catalogue, zones) {
-        Ok(index) => Ok(index),
-        Err(_) => Err(OutOfMemory),
-    }
-}
-
 // The conversation over the line, from the index's tables on, which are the keeper's.
-#[tactic(auto, using(crate::proofs::Endings::ends_talking))]
 fn talk_over<L: Line, C: Clock, P: Keeper>(
     alloc: Global,
     index: Index,
@@ -82,11 +62,9 @@ fn talk_over<L: Line, C: Clock, P: Keeper>(
     clock: &mut C,
 ) -> RunEnd
     requires { KeepsTables (P.rows keeper.old) index }
-    ensures ran { IfSome (L.left line.old) (λ input. TalkedFrom index (P.rows keeper.new) (L.taken line.old) (L.taken line.new) input result.status result.trace) }
-    ensures kept { KeptFrom index (P.rows keeper.new) }
-    ensures ends { EndsTalking result.status }
+    ensures ran { TalkedFrom index (P.rows keeper.new) (L.left line.old) (L.taken line.old) (L.taken line.new) result.status result.trace }
     ensures faults { Rise (all_keeper_faults result.trace) (P.keeper_faults keeper.old) (P.keeper_faults keeper.new) }
-    ensures moments { AppendsMoments (C.given clock.old) (C.given clock.new) (all_moments result.trace) }
+    ensures clock { Clocked (C.given clock.old) (C.given clock.new) (C.clock_faults clock.old) (C.clock_faults clock.new) result.trace }
     ensures read_fault { result.status ≡ Status.ReadFault → Rose (L.read_faults line.old) (L.read_faults line.new) }
     ensures write_fault { result.status ≡ Status.WriteFault → Rose (L.write_faults line.old) (L.write_faults line.new) }
     ensures clock_fault { result.status ≡ Status.ClockFault → Rose (C.clock_faults clock.old) (C.clock_faults clock.new) }
@@ -95,34 +73,6 @@ fn talk_over<L: Line, C: Clock, P: Keeper>(
     RunEnd {
         status: status_of(talk.end),
         trace: talk.trace,
-    }
-}
-
-// The same over good tables, which are the keeper's. Memory may be refused before the first message.
-fn talk_from<L: Line, C: Clock, P: Keeper>(
-    alloc: Global,
-    tables: Tables,
-    line: &mut L,
-    clock: &mut C,
-    keeper: &mut P,
-    catalogue: Catalogue,
-    zones: Zones,
-) -> RunEnd
-    requires good { Good tables }
-    requires rows { KeepsTables (P.rows keeper.old) tables }
-    ensures ran { ((result.status ≡ Status.OutOfMemory) × (keeper.new ≡ keeper.old) × (line.new ≡ line.old) × (clock.new ≡ clock.old) × (result.trace ≡ []))
-        ⊎ IfSome (L.left line.old) (λ input. TalkedFrom tables (P.rows keeper.new) (L.taken line.old) (L.taken line.new) input result.status result.trace) }
-    ensures kept { KeptFrom tables (P.rows keeper.new) }
-    ensures ends { EndsTalking result.status }
-    ensures faults { Rise (all_keeper_faults result.trace) (P.keeper_faults keeper.old) (P.keeper_faults keeper.new) }
-    ensures moments { AppendsMoments (C.given clock.old) (C.given clock.new) (all_moments result.trace) }
-    ensures read_fault { result.status ≡ Status.ReadFault → Rose (L.read_faults line.old) (L.read_faults line.new) }
-    ensures write_fault { result.status ≡ Status.WriteFault → Rose (L.write_faults line.old) (L.write_faults line.new) }
-    ensures clock_fault { result.status ≡ Status.ClockFault → Rose (C.clock_faults clock.old) (C.clock_faults clock.new) }
-{
-    match index_of(alloc, tables, catalogue, zones) {
-        Ok(index) => talk_over(alloc, index, keeper, line, clock),
-        Err(_) => early(alloc, Status::OutOfMemory),
     }
 }
 
@@ -138,18 +88,17 @@ fn apply<L: Line, C: Clock, P: Keeper>(
 ) -> RunEnd
     requires { IfSome opening IsOpening }
     ensures ran { (EndsUnopened opening (P.rows keeper.old) (P.rows keeper.new) result.status × (line.new ≡ line.old) × (clock.new ≡ clock.old) × (result.trace ≡ []))
-        ⊎ RanFrom opening (P.rows keeper.old) (P.rows keeper.new) (L.left line.old) (L.taken line.old) (L.taken line.new) result.status result.trace }
-    ensures ends { CanEnd result.status }
+        ⊎ TalkedOpened opening (P.rows keeper.old) (P.rows keeper.new) (L.left line.old) (L.taken line.old) (L.taken line.new) result.status result.trace }
     ensures talks { result.status ≡ Status.Words → ⊥ }
     ensures keeper { result.status ≡ Status.Keeper → Rose (P.keeper_faults keeper.old) (P.keeper_faults keeper.new) }
     ensures faults { Rise (all_keeper_faults result.trace) (P.keeper_faults keeper.old) (P.keeper_faults keeper.new) }
-    ensures moments { AppendsMoments (C.given clock.old) (C.given clock.new) (all_moments result.trace) }
+    ensures clock { Clocked (C.given clock.old) (C.given clock.new) (C.clock_faults clock.old) (C.clock_faults clock.new) result.trace }
     ensures read_fault { result.status ≡ Status.ReadFault → Rose (L.read_faults line.old) (L.read_faults line.new) }
     ensures write_fault { result.status ≡ Status.WriteFault → Rose (L.write_faults line.old) (L.write_faults line.new) }
     ensures clock_fault { result.status ≡ Status.ClockFault → Rose (C.clock_faults clock.old) (C.clock_faults clock.new) }
 {
-    match open(alloc, opening, keeper) {
-        Ok(tables) => talk_from(alloc, tables, line, clock, keeper, catalogue, zones),
+    match open(alloc, opening, keeper, catalogue, zones) {
+        Ok(index) => talk_over(alloc, index, keeper, line, clock),
         Err(OpenStop::Rows(fault)) => early(alloc, Status::Rows(fault)),
         Err(OpenStop::Keeper) => early(alloc, Status::Keeper),
         Err(OpenStop::OutOfMemory) => early(alloc, Status::OutOfMemory),
@@ -174,11 +123,10 @@ pub fn run<L: Line, C: Clock, P: Keeper>(
     ensures ran { (EndsUnread result.status × (line.new ≡ line.old) × (clock.new ≡ clock.old) × (keeper.new ≡ keeper.old) × (result.trace ≡ []))
         ⊎ ((opening : Opt AnOpening) × IsPlan words.now (Plan.Apply opening)
         × ((EndsUnopened opening (P.rows keeper.old) (P.rows keeper.new) result.status × (line.new ≡ line.old) × (clock.new ≡ clock.old) × (result.trace ≡ []))
-        ⊎ RanFrom opening (P.rows keeper.old) (P.rows keeper.new) (L.left line.old) (L.taken line.old) (L.taken line.new) result.status result.trace)) }
-    ensures ends { CanEnd result.status }
+        ⊎ TalkedOpened opening (P.rows keeper.old) (P.rows keeper.new) (L.left line.old) (L.taken line.old) (L.taken line.new) result.status result.trace)) }
     ensures keeper { result.status ≡ Status.Keeper → Rose (P.keeper_faults keeper.old) (P.keeper_faults keeper.new) }
     ensures faults { Rise (all_keeper_faults result.trace) (P.keeper_faults keeper.old) (P.keeper_faults keeper.new) }
-    ensures moments { AppendsMoments (C.given clock.old) (C.given clock.new) (all_moments result.trace) }
+    ensures clock { Clocked (C.given clock.old) (C.given clock.new) (C.clock_faults clock.old) (C.clock_faults clock.new) result.trace }
     ensures read_fault { result.status ≡ Status.ReadFault → Rose (L.read_faults line.old) (L.read_faults line.new) }
     ensures write_fault { result.status ≡ Status.WriteFault → Rose (L.write_faults line.old) (L.write_faults line.new) }
     ensures clock_fault { result.status ≡ Status.ClockFault → Rose (C.clock_faults clock.old) (C.clock_faults clock.new) }

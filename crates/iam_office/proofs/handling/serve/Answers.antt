@@ -1,9 +1,24 @@
-use Rattle.iam_office.proofs.Answering.{no_clock}
+use Rattle.std.proofs.Common.{refl}
+use Rattle.iam_office.proofs.Answering.{no_clock, read_gives}
+use Rattle.iam_office.proofs.Clocks.{clocked_failed, clocked_timed, rise_plainly}
+use Rattle.iam_office.proofs.Counting.{count_stays, none_without_clock}
 use Rattle.iam_office.proofs.Leading.{leads_here}
 use Rattle.iam_office.proofs.handling.serve.Goals as goal
 
-pub returns-in-Ok-clause-answers : goal.returns-in-Ok-clause-answers
-returns-in-Ok-clause-answers g c = c.read.ensures.answers
+pub returns-in-Ok-clause-handled : goal.returns-in-Ok-clause-handled
+returns-in-Ok-clause-handled g c = c.read.ensures.handled
 
-pub returns-in-Err-clause-answers : goal.returns-in-Err-clause-answers
-returns-in-Err-clause-answers g c = leads_here g.O.Office.stands _ _ (λ t h. no_clock g.O.Office.alone c.args.caller.now _ _ _ t h c.no_clock.ensures)
+pub returns-in-Ok-clause-clock : goal.returns-in-Ok-clause-clock
+returns-in-Ok-clause-clock g c = clocked_timed _ _ _ _ _ _ c.in-Ok.ensures.given c.in-Ok.ensures.cause.later c.read.ensures.timed
+
+pub returns-in-Err-clause-handled : goal.returns-in-Err-clause-handled
+returns-in-Err-clause-handled g c = λ message asked. record {
+  answers = leads_here g.O.Office.stands _ _ (λ t h. no_clock g.O.Office.alone message _ _ t h (read_gives message c.args.caller.now c.args.ask.now asked) c.no_clock.ensures);
+  count = count_stays _ _ _ refl (none_without_clock message _ _ _ c.no_clock.ensures);
+}
+
+pub returns-in-Err-clause-clock : goal.returns-in-Err-clause-clock
+returns-in-Err-clause-clock g c = clocked_failed _ _ _ _ _ _ _ c.in-Err.ensures.given c.in-Err.ensures.cause.failed c.no_clock.ensures
+
+pub returns-in-Err-clause-faults : goal.returns-in-Err-clause-faults
+returns-in-Err-clause-faults g c = rise_plainly _ _ _ _ _ refl c.no_clock.ensures
