@@ -1,0 +1,109 @@
+// Access to a node by its name, of a permission by its text.
+ghost use Rattle.std.specs.Prelude.{◌≡◌, [], IfOk, IsTrue, string_bytes};
+ghost use Rattle.iam_model.specs.Catalogue.{is_permission as has_permission};
+ghost use Rattle.iam_model.specs.Nodes.{exists};
+ghost use Rattle.iam_law.specs.Asked.{query_on as the_query};
+ghost use Rattle.iam_law.specs.Decide.{decide as decision_of};
+ghost use Rattle.iam_ask.specs.Access.{access, access_at as the_access, access_line, words_of as the_words};
+
+use crate::words::words_of;
+use iam_judge::{Index, resource_facts_of};
+use iam_names::{Caller, NodeId, NodeName, PermissionName, copy_caller};
+use iam_tables::{Catalogue, Query, permission_named, resolve};
+use iam_text::{List, Moment, OutOfMemory, Text};
+use std::alloc::Global;
+
+fn is_known(catalogue: &Catalogue, text: &str) -> bool
+    ensures { result ≡ has_permission text.now }
+{
+    catalogue
+        .permissions()
+        .iter()
+        .any(|permit| permit.name.as_str() == text)
+}
+
+fn query_on(
+    alloc: Global,
+    caller: &Caller,
+    moment: Moment,
+    permission: PermissionName,
+    node: NodeId,
+) -> Result<Query, OutOfMemory>
+    ensures { IfOk result (λ query. query ≡ the_query caller.now moment [] permission node) }
+{
+    Ok(Query {
+        caller: copy_caller(caller)?,
+        node,
+        permission,
+        resource: resource_facts_of(alloc, node)?,
+        moment,
+        modified: List::new(alloc),
+    })
+}
+
+fn decided(
+    alloc: Global,
+    index: &Index,
+    caller: &Caller,
+    moment: Moment,
+    permission: PermissionName,
+    node: NodeId,
+) -> Result<String, OutOfMemory>
+    requires node { IsTrue (exists index.now node) }
+    requires permission { IsTrue (has_permission permission) }
+    ensures { IfOk result (λ text. string_bytes text ≡ the_words (decision_of index.now (the_query caller.now moment [] permission node))) }
+{
+    let query = query_on(alloc, caller, moment, permission, node)?;
+    let decision = index.decision(alloc, &query)?;
+    words_of(alloc, &decision)
+}
+
+fn access_at(
+    alloc: Global,
+    index: &Index,
+    caller: &Caller,
+    moment: Moment,
+    permission: &str,
+    node: NodeId,
+) -> Result<String, OutOfMemory>
+    requires { IsTrue (exists index.now node) }
+    ensures { IfOk result (λ text. string_bytes text ≡ the_access index.now caller.now moment permission.now node) }
+{
+    if !is_known(index.catalogue(), permission) {
+        return Ok(String::from_str(alloc, "PERMISSION_UNKNOWN")?);
+    }
+    let known = permission_named(alloc, permission)?;
+    decided(alloc, index, caller, moment, known, node)
+}
+
+fn access_to(
+    alloc: Global,
+    index: &Index,
+    caller: &Caller,
+    moment: Moment,
+    node: &NodeName,
+    permission: &str,
+) -> Result<String, OutOfMemory>
+    ensures { IfOk result (λ text. string_bytes text ≡ access index.now caller.now moment node.now permission.now) }
+{
+    match resolve(index.tables(), node) {
+        Some(id) => access_at(alloc, index, caller, moment, permission, id),
+        None => Ok(String::from_str(alloc, "NOT_FOUND")?),
+    }
+}
+
+/// The line that says whether the caller may use the permission on the node, at this moment, and what decides it.
+pub fn ask(
+    alloc: Global,
+    index: &Index,
+    caller: &Caller,
+    node: &NodeName,
+    permission: &str,
+    moment: Moment,
+) -> Result<Text, OutOfMemory>
+    ensures { IfOk result (λ line. line ≡ access_line index.now caller.now moment node.now permission.now) }
+{
+    let mut line = access_to(alloc, index, caller, moment, node, permission)?;
+    line.push_str("\n")?;
+    Ok(Text::from(line))
+}
