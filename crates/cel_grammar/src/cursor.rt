@@ -1,4 +1,4 @@
-ghost use Rattle.std.specs.Prelude.{◌≡◌, if◌then◌else◌, length, Some, None};
+ghost use Rattle.std.specs.Prelude.{◌≡◌, if◌then◌else◌, length, slice_get};
 ghost use Rattle.std.specs.Option.{option_copied};
 ghost use Rattle.cel_grammar.specs.Position as position;
 ghost use Rattle.cel_grammar.specs.Reader as spec;
@@ -6,23 +6,24 @@ ghost use Rattle.cel_grammar.specs.Reader.{Reads};
 
 use crate::level::{Level, op_of};
 use crate::stop::Stop;
-use cel_tree::{Op, Sign, Span, Token, TokenKind};
+use cel_tree::{Op, Sign, Span, Token, TokenKind, Tokens};
 use iam_text::Text;
+use std::collections::VecDeque;
 use std::marker::Model;
 
-/// A position in a list of tokens.
+/// A position in a list of tokens. It holds those that are left, and hands on what it takes of them.
 #[derive(Drop)]
-pub struct Cursor<'a> {
+pub struct Cursor {
     last: u32,
-    rest: &'a [Token],
+    rest: VecDeque<Token>,
 }
 
-impl<'a> Model for Cursor<'a> {
+impl Model for Cursor {
     ghost use Rattle.cel_grammar.specs.Position.{Position};
 
     ghost Value = { Position };
 
-    ghost view = { λ c. record { last = c.last; rest = c.rest.now } };
+    ghost view = { λ c. record { last = c.last; rest = c.rest.items } };
 }
 
 #[tactic(auto, unfolding(crate::specs::Reader::same_sign))]
@@ -41,13 +42,13 @@ fn is_sign(sign: Sign, kind: &TokenKind) -> bool
     }
 }
 
-impl<'a> Cursor<'a> {
-    pub fn new(tokens: &'a [Token]) -> Cursor<'a>
-        ensures { result ≡ position.start_of tokens.now }
+impl Cursor {
+    pub fn new(tokens: Tokens) -> Cursor
+        ensures { result ≡ position.start_of tokens }
     {
         Cursor {
             last: 0,
-            rest: tokens,
+            rest: tokens.into_deque(),
         }
     }
 
@@ -58,13 +59,20 @@ impl<'a> Cursor<'a> {
         self.rest.len()
     }
 
+    fn peek(&self, at: usize) -> Option<&Token>
+        ensures { option_copied result ≡ slice_get self.now.rest at }
+    {
+        self.rest.get(at)
+    }
+
     /// Where the next token begins.
+    #[tactic(auto, using(crate::proofs::Peeked::is_first, crate::proofs::Peeked::is_empty))]
     pub fn from(&self) -> u32
         ensures { result ≡ position.from self.now }
     {
-        match self.rest {
-            [first, ..] => first.span.from,
-            [] => self.last,
+        match self.peek(0) {
+            Some(first) => first.span.from,
+            None => self.last,
         }
     }
 
@@ -78,40 +86,41 @@ impl<'a> Cursor<'a> {
         }
     }
 
-    pub fn first(&self) -> Option<&'a TokenKind>
-        ensures { option_copied result ≡ spec.first self.now }
+    /// Takes the next token.
+    pub fn take(&mut self) -> Option<TokenKind>
+        ensures first { result ≡ spec.first self.old }
+        ensures rest { self.new ≡ spec.next self.old }
     {
-        match self.rest {
-            [first, ..] => Some(&first.kind),
-            [] => None,
-        }
+        let Token { span, kind } = self.rest.pop_front()?;
+        self.last = span.to;
+        Some(kind)
     }
 
-    pub fn take(&mut self)
+    /// Passes over the next token.
+    pub fn skip(&mut self)
         ensures { self.new ≡ spec.next self.old }
     {
-        if let [first, rest @ ..] = self.rest {
-            self.last = first.span.to;
-            self.rest = rest;
-        }
+        self.take();
     }
 
+    #[tactic(auto, using(crate::proofs::Peeked::is_first, crate::proofs::Peeked::is_empty))]
     pub fn sees(&self, sign: Sign) -> bool
         ensures { result ≡ spec.sees sign self.now }
     {
-        match self.rest {
-            [first, ..] => is_sign(sign, &first.kind),
-            [] => false,
+        match self.peek(0) {
+            Some(first) => is_sign(sign, &first.kind),
+            None => false,
         }
     }
 
     // The next token but one is a number.
+    #[tactic(auto, using(crate::proofs::Peeked::is_second, crate::proofs::Peeked::is_short))]
     fn number_follows(&self) -> bool
         ensures { result ≡ position.sees_number (spec.next self.now) }
     {
-        match self.rest {
-            [_, second, ..] => matches!(second.kind, TokenKind::Number(_)),
-            _ => false,
+        match self.peek(1) {
+            Some(second) => matches!(second.kind, TokenKind::Number(_)),
+            None => false,
         }
     }
 
@@ -126,7 +135,7 @@ impl<'a> Cursor<'a> {
         if self.number_follows() {
             return false;
         }
-        self.take();
+        self.skip();
         true
     }
 
@@ -137,7 +146,7 @@ impl<'a> Cursor<'a> {
     {
         let found = self.sees(sign);
         if found {
-            self.take();
+            self.skip();
         }
         found
     }
@@ -146,7 +155,7 @@ impl<'a> Cursor<'a> {
         ensures { Reads (spec.expect sign self.old) result self.new }
     {
         if self.sees(sign) {
-            self.take();
+            self.skip();
             Ok(())
         } else {
             Err(Stop::NotAnExpression)
@@ -154,27 +163,24 @@ impl<'a> Cursor<'a> {
     }
 
     /// The operator of the level that comes next.
+    #[tactic(auto, using(crate::proofs::Peeked::is_first, crate::proofs::Peeked::is_empty))]
     pub fn op(&self, level: Level) -> Option<Op>
         ensures { result ≡ spec.op_at level self.now }
     {
-        match self.rest {
-            [first, ..] => match first.kind {
+        match self.peek(0) {
+            Some(first) => match first.kind {
                 TokenKind::Sign(sign) => op_of(level, sign),
                 _ => None,
             },
-            [] => None,
+            None => None,
         }
     }
 
     pub fn name(&mut self) -> Result<Text, Stop>
         ensures { Reads (spec.name self.old) result self.new }
     {
-        match self.first() {
-            Some(TokenKind::Name(text)) => {
-                let text = text.clone()?;
-                self.take();
-                Ok(text)
-            }
+        match self.take() {
+            Some(TokenKind::Name(text)) => Ok(text),
             _ => Err(Stop::NotAnExpression),
         }
     }

@@ -39,15 +39,14 @@ pub fn negated(number: u64) -> Option<i64>
 
 /// The literal, behind its minus.
 #[tactic(auto, unfolding(crate::specs::Reader::negative))]
-pub fn negative(alloc: Global, tokens: &mut Cursor<'_>, from: u32) -> Result<Boxed<Expr>, Stop>
+pub fn negative(alloc: Global, tokens: &mut Cursor, from: u32) -> Result<Boxed<Expr>, Stop>
     ensures { Reads (spec.negative from tokens.old) result tokens.new }
 {
-    let Some(TokenKind::Number(number)) = tokens.first() else {
+    let Some(TokenKind::Number(number)) = tokens.take() else {
         return Err(Stop::NotAnExpression);
     };
-    let Some(number) = negated(*number) else {
+    let Some(number) = negated(number) else {
         return Err(Stop::NotAnExpression);
     };
-    tokens.take();
     Ok(int(alloc, tokens.span(from), number)?)
 }

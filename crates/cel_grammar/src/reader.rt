@@ -10,20 +10,21 @@ use crate::cursor::Cursor;
 use crate::level::Level;
 use crate::literal::{negative, positive};
 use crate::stop::Stop;
-use cel_tree::{Boxed, Expr, Sign, Token, TokenKind};
+use cel_tree::{Boxed, Expr, Sign, TokenKind, Tokens};
 use iam_text::{List, Text};
 use std::alloc::Global;
 
 /// The tree of the tokens.
-pub fn read(alloc: Global, tokens: &[Token]) -> Result<Expr, Stop>
-    requires { length tokens.now < 2 ^ 32 }
+pub fn read(alloc: Global, tokens: Tokens) -> Result<Expr, Stop>
+    requires { length tokens < 2 ^ 32 }
     // What is read is derived.
-    ensures sound { IfOk result (λ a. IsExpr tokens.now a) }
+    ensures sound { IfOk result (λ a. IsExpr tokens a) }
     // What is derived is read, unless memory runs out. So it is an error only where there is no tree.
-    ensures complete { (a : Expr) → IsExpr tokens.now a → Gives a result }
+    ensures complete { (a : Expr) → IsExpr tokens a → Gives a result }
 {
+    let depth = tokens.len() + 1;
     let mut cursor = Cursor::new(tokens);
-    match whole(alloc, &mut cursor, tokens.len() + 1) {
+    match whole(alloc, &mut cursor, depth) {
         Ok(a) if cursor.left() == 0 => Ok(a.into_inner()),
         Ok(_) => Err(Stop::NotAnExpression),
         Err(stop) => Err(stop),
@@ -32,7 +33,7 @@ pub fn read(alloc: Global, tokens: &[Token]) -> Result<Expr, Stop>
 
 #[cycle(reader)]
 #[tactic(auto, unfolding(crate::specs::Reader::whole_at, crate::specs::Reader::whole_of, crate::specs::Reader::picked))]
-fn whole(alloc: Global, tokens: &mut Cursor<'_>, depth: usize) -> Result<Boxed<Expr>, Stop>
+fn whole(alloc: Global, tokens: &mut Cursor, depth: usize) -> Result<Boxed<Expr>, Stop>
     ensures { Reads (spec.whole_at depth tokens.old) result tokens.new }
 {
     if depth == 0 {
@@ -54,7 +55,7 @@ fn whole(alloc: Global, tokens: &mut Cursor<'_>, depth: usize) -> Result<Boxed<E
 #[tactic(auto, unfolding(crate::specs::Reader::chained, crate::specs::Reader::chain_from))]
 fn chain(
     alloc: Global,
-    tokens: &mut Cursor<'_>,
+    tokens: &mut Cursor,
     depth: usize,
     level: Level,
 ) -> Result<Boxed<Expr>, Stop>
@@ -67,7 +68,7 @@ fn chain(
         let Some(op) = tokens.op(level) else {
             return Ok(left);
         };
-        tokens.take();
+        tokens.skip();
         let right = side(alloc, tokens, depth, level)?;
         left = two(alloc, tokens.span(from), op, left, right)?;
     }
@@ -76,12 +77,7 @@ fn chain(
 
 // What stands beside an operator of the level.
 #[cycle(reader)]
-fn side(
-    alloc: Global,
-    tokens: &mut Cursor<'_>,
-    depth: usize,
-    level: Level,
-) -> Result<Boxed<Expr>, Stop>
+fn side(alloc: Global, tokens: &mut Cursor, depth: usize, level: Level) -> Result<Boxed<Expr>, Stop>
     ensures { Reads (spec.side (spec.whole_at depth) level tokens.old) result tokens.new }
 {
     match level {
@@ -95,7 +91,7 @@ fn side(
 
 #[cycle(reader)]
 #[tactic(auto, unfolding(crate::specs::Reader::unary))]
-fn unary(alloc: Global, tokens: &mut Cursor<'_>, depth: usize) -> Result<Boxed<Expr>, Stop>
+fn unary(alloc: Global, tokens: &mut Cursor, depth: usize) -> Result<Boxed<Expr>, Stop>
     ensures { Reads (spec.unary (spec.whole_at depth) tokens.old) result tokens.new }
 {
     let from = tokens.from();
@@ -110,12 +106,7 @@ fn unary(alloc: Global, tokens: &mut Cursor<'_>, depth: usize) -> Result<Boxed<E
 
 #[cycle(reader)]
 #[tactic(auto, unfolding(crate::specs::Reader::nots))]
-fn nots(
-    alloc: Global,
-    tokens: &mut Cursor<'_>,
-    depth: usize,
-    turns: usize,
-) -> Result<Boxed<Expr>, Stop>
+fn nots(alloc: Global, tokens: &mut Cursor, depth: usize, turns: usize) -> Result<Boxed<Expr>, Stop>
     ensures { Reads (spec.nots (spec.whole_at depth) turns tokens.old) result tokens.new }
 {
     let from = tokens.from();
@@ -131,12 +122,7 @@ fn nots(
 
 #[cycle(reader)]
 #[tactic(auto, unfolding(crate::specs::Reader::negs))]
-fn negs(
-    alloc: Global,
-    tokens: &mut Cursor<'_>,
-    depth: usize,
-    turns: usize,
-) -> Result<Boxed<Expr>, Stop>
+fn negs(alloc: Global, tokens: &mut Cursor, depth: usize, turns: usize) -> Result<Boxed<Expr>, Stop>
     ensures { Reads (spec.negs (spec.whole_at depth) turns tokens.old) result tokens.new }
 {
     let from = tokens.from();
@@ -152,7 +138,7 @@ fn negs(
 
 #[cycle(reader)]
 #[tactic(auto, unfolding(crate::specs::Reader::member, crate::specs::Reader::member_from))]
-fn member(alloc: Global, tokens: &mut Cursor<'_>, depth: usize) -> Result<Boxed<Expr>, Stop>
+fn member(alloc: Global, tokens: &mut Cursor, depth: usize) -> Result<Boxed<Expr>, Stop>
     ensures { Reads (spec.member (spec.whole_at depth) tokens.old) result tokens.new }
 {
     let from = tokens.from();
@@ -173,7 +159,7 @@ fn member(alloc: Global, tokens: &mut Cursor<'_>, depth: usize) -> Result<Boxed<
 #[tactic(auto, unfolding(crate::specs::Reader::selected))]
 fn selected(
     alloc: Global,
-    tokens: &mut Cursor<'_>,
+    tokens: &mut Cursor,
     depth: usize,
     from: u32,
     left: Boxed<Expr>,
@@ -191,17 +177,15 @@ fn selected(
 
 #[cycle(reader)]
 #[tactic(auto, unfolding(crate::specs::Reader::primary, crate::specs::Reader::called, crate::specs::Reader::grouped, crate::specs::Reader::listed))]
-fn primary(alloc: Global, tokens: &mut Cursor<'_>, depth: usize) -> Result<Boxed<Expr>, Stop>
+fn primary(alloc: Global, tokens: &mut Cursor, depth: usize) -> Result<Boxed<Expr>, Stop>
     ensures { Reads (spec.primary (spec.whole_at depth) tokens.old) result tokens.new }
 {
     let from = tokens.from();
-    let Some(kind) = tokens.first() else {
+    let Some(kind) = tokens.take() else {
         return Err(Stop::NotAnExpression);
     };
-    tokens.take();
     match kind {
         TokenKind::Name(name) => {
-            let name = name.clone()?;
             if tokens.eat(Sign::OpenParenthesis) {
                 let args = args(alloc, tokens, depth)?;
                 Ok(Boxed::new(alloc, Expr::Call(tokens.span(from), name, args))?)
@@ -220,24 +204,21 @@ fn primary(alloc: Global, tokens: &mut Cursor<'_>, depth: usize) -> Result<Boxed
         }
         TokenKind::Sign(Sign::Minus) => negative(alloc, tokens, from),
         TokenKind::Sign(_) => Err(Stop::NotAnExpression),
-        TokenKind::Truth(b) => Ok(Boxed::new(alloc, Expr::Bool(tokens.span(from), *b))?),
+        TokenKind::Truth(b) => Ok(Boxed::new(alloc, Expr::Bool(tokens.span(from), b))?),
         TokenKind::Number(number) => {
-            let Some(number) = positive(*number) else {
+            let Some(number) = positive(number) else {
                 return Err(Stop::NotAnExpression);
             };
             Ok(int(alloc, tokens.span(from), number)?)
         }
-        TokenKind::Str(text) => {
-            let text = text.clone()?;
-            Ok(Boxed::new(alloc, Expr::Str(tokens.span(from), text))?)
-        }
+        TokenKind::Str(text) => Ok(Boxed::new(alloc, Expr::Str(tokens.span(from), text))?),
     }
 }
 
 // Behind the opening parenthesis, with the closing one.
 #[cycle(reader)]
 #[tactic(auto, unfolding(crate::specs::Reader::args, crate::specs::Reader::args_from))]
-fn args(alloc: Global, tokens: &mut Cursor<'_>, depth: usize) -> Result<List<Expr>, Stop>
+fn args(alloc: Global, tokens: &mut Cursor, depth: usize) -> Result<List<Expr>, Stop>
     ensures { Reads (spec.args (spec.whole_at depth) tokens.old) result tokens.new }
 {
     let mut found = List::new(alloc);
@@ -259,7 +240,7 @@ fn args(alloc: Global, tokens: &mut Cursor<'_>, depth: usize) -> Result<List<Exp
 // Behind the opening bracket, with the closing one.
 #[cycle(reader)]
 #[tactic(auto, unfolding(crate::specs::Reader::row, crate::specs::Reader::row_from))]
-fn row(alloc: Global, tokens: &mut Cursor<'_>, depth: usize) -> Result<List<Expr>, Stop>
+fn row(alloc: Global, tokens: &mut Cursor, depth: usize) -> Result<List<Expr>, Stop>
     ensures { Reads (spec.row (spec.whole_at depth) tokens.old) result tokens.new }
 {
     let mut found = List::new(alloc);

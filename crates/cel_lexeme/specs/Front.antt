@@ -2,6 +2,7 @@
 use Rattle.std.specs.Prelude.{ℕ, zero, suc, ◌+◌, ◌-◌, ◌^◌, min, Bool, true, false, not, ◌&&◌, ◌==◌, if◌then◌else◌, List, [], ◌∷◌, ◌++◌, length, take, drop, slice_index, Option, Some, None}
 use Rattle.std.specs.Char.{is_digit, is_ascii_digit}
 use Rattle.std.specs.List.{prefix_len}
+use Rattle.std.specs.Str.{byte}
 use lib.Utf8.{scalar}
 use Rattle.cel_tree.specs.declared.token.Sign.{Sign}
 use Rattle.cel_tree.specs.declared.token.Sign.TheVariants as sign
@@ -13,7 +14,7 @@ use Rattle.cel_lexeme.specs.declared.strings.StringForm.{StringForm}
 use Rattle.cel_lexeme.specs.declared.strings.Item.{Item}
 use Rattle.cel_lexeme.specs.declared.strings.Item.TheVariants.{Byte, Code}
 use Rattle.cel_lexeme.specs.declared.strings.Body.{Body}
-use Rattle.cel_lexeme.specs.Lexeme.{word_lexeme, number, number_lexeme, is_quote, is_raw_mark, quotes, closes, may_stand, escape_code, hexadecimal_len, utf8, string_lexeme}
+use Rattle.cel_lexeme.specs.Lexeme.{word_lexeme, number, number_lexeme, is_quote, is_raw_mark, backslash, quotes, closes, may_stand, escape_code, hexadecimal_len, utf8, string_lexeme}
 
 -- numbers from here on are alike: all are bad tokens, and no Unicode scalar values
 abbrev pub beyond : ℕ
@@ -63,7 +64,7 @@ code_item None = None
 code_item (Some escape) = Some (Code escape.0 escape.1)
 
 abbrev pub item_at : StringForm → ℕ → List ℕ → Option Item
-item_at form b z = if b == 92 && not form.raw then code_item (escape_at z) else (if may_stand form b then Some (Byte b) else None)
+item_at form b z = if b == backslash && not form.raw then code_item (escape_at z) else (if may_stand form b then Some (Byte b) else None)
 
 abbrev pub behind : List ℕ → Bool → ℕ → Option Body → Option Body
 behind value sound len None = None
@@ -120,7 +121,7 @@ digits_at base n z =
     let count = prefix_len (λ b. is_digit b base) z in (number_lexeme (min (number base (take count z)) beyond), n + count)
 
 abbrev pub is_hexadecimal : List ℕ → Bool
-is_hexadecimal z = slice_index z 0 == 48 && slice_index z 1 == 120 && is_digit (slice_index z 2) 16
+is_hexadecimal z = slice_index z 0 == byte "0" && slice_index z 1 == byte "x" && is_digit (slice_index z 2) 16
 
 unfoldable pub number_at : List ℕ → Lexeme × ℕ
 number_at z = if is_hexadecimal z then digits_at 16 2 (drop 2 z) else digits_at 10 0 z

@@ -3,6 +3,7 @@ use Rattle.std.specs.Prelude.{◌≡◌, ◌≤◌, ◌<◌, ◌+◌, ◌*◌, �
 use Rattle.std.specs.Char.{digit_value, is_digit, encode_utf8}
 use lib.Utf8.{scalar}
 use Rattle.std.specs.List.{list_all}
+use Rattle.std.specs.Str.{byte}
 use Rattle.cel_tree.specs.declared.token.Sign.{Sign}
 use Rattle.cel_tree.specs.declared.token.Sign.TheVariants.{In}
 use Rattle.cel_tree.specs.declared.token.TokenKind.TheVariants as kind
@@ -32,10 +33,10 @@ number_lexeme n = if nat_le n (2 ^ 63) then Token (kind.Number n) else Bad
 
 -- how a string is quoted
 abbrev pub is_quote : ℕ → Bool
-is_quote b = b == 34 || b == 39
+is_quote b = b == byte "\"" || b == byte "'"
 
 abbrev pub is_raw_mark : ℕ → Bool
-is_raw_mark b = b == 114 || b == 82
+is_raw_mark b = b == byte "r" || b == byte "R"
 
 -- the quotes before and behind a string
 abbrev pub quotes : StringForm → List ℕ
@@ -46,27 +47,31 @@ abbrev pub closes : StringForm → List ℕ → Bool
 closes form z =
     slice_index z 0 == form.quote && (not form.long || (slice_index z 1 == form.quote && slice_index z 2 == form.quote))
 
+abbrev pub backslash : ℕ
+backslash = byte "\\"
+
 -- bytes that stand for themselves: a backslash only in a raw string, a line feed and a carriage return only in a long one
 abbrev pub may_stand : StringForm → ℕ → Bool
-may_stand form b = (form.raw || not (b == 92)) && (form.long || not (b == 10 || b == 13))
+may_stand form b = (form.raw || not (b == backslash)) && (form.long || not (b == byte "\n" || b == byte "\r"))
 
 -- what a backslash with one more character stands for: \a \b \f \n \r \t \v \\ \? \" \' and a backslash with a backquote
 abbrev pub escape_code : ℕ → Option ℕ
 escape_code b =
-    if b == 97 then Some 7 else (if b == 98 then Some 8 else (if b == 102 then Some 12 else (if b == 110 then Some 10
-    else (if b == 114 then Some 13 else (if b == 116 then Some 9 else (if b == 118 then Some 11
-    else (if b == 92 || b == 63 || b == 34 || b == 39 || b == 96 then Some b else None)))))))
+    if b == byte "a" then Some 7 else (if b == byte "b" then Some 8 else (if b == byte "f" then Some 12 else (if b == byte "n" then Some 10
+    else (if b == byte "r" then Some 13 else (if b == byte "t" then Some 9 else (if b == byte "v" then Some 11
+    else (if b == backslash || b == byte "?" || b == byte "\"" || b == byte "'" || b == byte "`" then Some b else None)))))))
 
 -- how many hexadecimal digits follow \x \X \u \U
 abbrev pub hexadecimal_len : ℕ → Option ℕ
-hexadecimal_len b = if b == 120 || b == 88 then Some 2 else (if b == 117 then Some 4 else (if b == 85 then Some 8 else None))
+hexadecimal_len b =
+    if b == byte "x" || b == byte "X" then Some 2 else (if b == byte "u" then Some 4 else (if b == byte "U" then Some 8 else None))
 
 -- these bytes are an escape for the code point
 pub data Escape : ℕ → List ℕ → Type 0 where
-  single : {b code : ℕ} → escape_code b ≡ Some code → Escape code (92 ∷ b ∷ [])
+  single : {b code : ℕ} → escape_code b ≡ Some code → Escape code (backslash ∷ b ∷ [])
   hexadecimal : {b count : ℕ} {digits : List ℕ} → hexadecimal_len b ≡ Some count → length digits ≡ count → all_digits 16 digits ≡ true
-      → Escape (number 16 digits) (92 ∷ b ∷ digits)
-  octal : {a b c : ℕ} → is_digit a 4 ≡ true → all_digits 8 (b ∷ c ∷ []) ≡ true → Escape (number 8 (a ∷ b ∷ c ∷ [])) (92 ∷ a ∷ b ∷ c ∷ [])
+      → Escape (number 16 digits) (backslash ∷ b ∷ digits)
+  octal : {a b c : ℕ} → is_digit a 4 ≡ true → all_digits 8 (b ∷ c ∷ []) ≡ true → Escape (number 8 (a ∷ b ∷ c ∷ [])) (backslash ∷ a ∷ b ∷ c ∷ [])
 
 -- a code point in UTF-8; nothing for one that is no Unicode scalar value
 abbrev pub utf8 : ℕ → List ℕ
@@ -90,7 +95,7 @@ pub data Spells : Lexeme → List ℕ → Type 0 where
   sign : {s : Sign} → Spells (Token (kind.Sign s)) (spelling s)
   word : {w : List ℕ} → is_word w ≡ true → Spells (word_lexeme w) w
   decimal_number : {d : ℕ} {ds : List ℕ} → all_digits 10 (d ∷ ds) ≡ true → Spells (number_lexeme (number 10 (d ∷ ds))) (d ∷ ds)
-  hexadecimal_number : {d : ℕ} {ds : List ℕ} → all_digits 16 (d ∷ ds) ≡ true → Spells (number_lexeme (number 16 (d ∷ ds))) (48 ∷ 120 ∷ d ∷ ds)
+  hexadecimal_number : {d : ℕ} {ds : List ℕ} → all_digits 16 (d ∷ ds) ≡ true → Spells (number_lexeme (number 16 (d ∷ ds))) (byte "0" ∷ byte "x" ∷ d ∷ ds)
   string : {form : StringForm} {sound : Bool} {value z : List ℕ} → is_quote form.quote ≡ true → form.raw ≡ false → Body form sound value z
       → Spells (string_lexeme sound value) (quotes form ++ z)
   raw_string : {r : ℕ} {form : StringForm} {sound : Bool} {value z : List ℕ} → is_raw_mark r ≡ true → is_quote form.quote ≡ true → form.raw ≡ true

@@ -1,5 +1,6 @@
 -- The cut of a text into tokens, in the words of the language's definition.
 use Rattle.std.specs.Prelude.{◌≡◌, ◌<◌, ◌-◌, ◌^◌, ℕ, Bool, true, false, ◌&&◌, ◌||◌, ◌==◌, nat_le, nat_lt, List, [], ◌∷◌, length, drop, slice_index, Result, Ok, Err}
+use Rattle.std.specs.Str.{byte as ascii}
 use Rattle.cel_tree.specs.declared.token.Sign.TheVariants as sign
 use Rattle.cel_tree.specs.declared.token.TokenKind.{TokenKind}
 use Rattle.cel_tree.specs.declared.token.TokenKind.TheVariants as kind
@@ -15,20 +16,23 @@ use Rattle.cel_lexer.specs.declared.stop.Stop.TheVariants.{Fault, OutOfMemory}
 
 -- space, tab, line feed, form feed, carriage return
 abbrev pub is_blank : ℕ → Bool
-is_blank b = b == 32 || b == 9 || b == 10 || b == 12 || b == 13
+is_blank b = b == ascii " " || b == ascii "\t" || b == ascii "\n" || b == ascii "\u{c}" || b == ascii "\r"
 
 abbrev pub is_line_end : ℕ → Bool
-is_line_end b = b == 10 || b == 13
+is_line_end b = b == ascii "\n" || b == ascii "\r"
+
+abbrev pub slash : ℕ
+slash = ascii "/"
 
 abbrev pub begins_comment : List ℕ → Bool
-begins_comment z = slice_index z 0 == 47 && slice_index z 1 == 47
+begins_comment z = slice_index z 0 == slash && slice_index z 1 == slash
 
 -- from the one text on, where it says whether it begins in a comment, the other begins with the first byte that is in no blank and in
 -- no comment. A comment ends before a line feed or a carriage return.
 pub data Past : Bool → List ℕ → List ℕ → Type 0 where
   end : {in_comment : Bool} → Past in_comment [] []
   blank : {b : ℕ} {z here : List ℕ} → is_blank b ≡ true → Past false z here → Past false (b ∷ z) here
-  comment : {z here : List ℕ} → Past true z here → Past false (47 ∷ 47 ∷ z) here
+  comment : {z here : List ℕ} → Past true z here → Past false (slash ∷ slash ∷ z) here
   in_comment : {b : ℕ} {z here : List ℕ} → is_line_end b ≡ false → Past true z here → Past true (b ∷ z) here
   line_end : {b : ℕ} {z here : List ℕ} → is_line_end b ≡ true → Past false (b ∷ z) here → Past true (b ∷ z) here
   byte : {b : ℕ} {z : List ℕ} → is_blank b ≡ false → begins_comment (b ∷ z) ≡ false → Past false (b ∷ z) (b ∷ z)

@@ -10,9 +10,8 @@ ghost use Rattle.cel_lexer.specs.declared.stop.CutFault.{CutFault};
 use crate::blanks::past;
 use crate::seen::{after, may_stand};
 use crate::{CutFault, Seen, Stop};
-use cel_lexeme::{Lexeme, lexeme_at, longest};
-use cel_tree::{Span, Token, TokenKind};
-use iam_text::List;
+use cel_lexeme::{Lexeme, lexeme_at};
+use cel_tree::{Span, Token, TokenKind, Tokens};
 use std::alloc::Global;
 
 /// The token at the front, which is no blank and no comment, at this offset.
@@ -21,7 +20,6 @@ fn token_at(alloc: Global, seen: Seen, here: &[u8], from: u32) -> Result<(TokenK
     requires some { 0 < length here.now }
     ensures { spec.Reads seen here.now from result }
 {
-    longest();
     let Some((lexeme, len)) = lexeme_at(alloc, here)? else {
         return Err(Stop::Fault(CutFault::BadToken(from)));
     };
@@ -38,14 +36,13 @@ fn token_at(alloc: Global, seen: Seen, here: &[u8], from: u32) -> Result<(TokenK
 }
 
 /// The tokens of a text below 2^32 bytes, or the first fault.
-pub fn tokens(alloc: Global, text: &str) -> Result<List<Token>, Stop>
+pub fn tokens(alloc: Global, text: &str) -> Result<Tokens, Stop>
     requires { length text.now < 2 ^ 32 }
     ensures cut { spec.Cuts text.now result }
     ensures proper { IfOk result (λ tokens. All (λ token. IsProper token.kind) tokens) }
 {
-    longest();
     let bytes = text.as_bytes();
-    let mut found = List::new(alloc);
+    let mut found = Tokens::new(alloc);
     let mut seen = Seen::Opening;
     let mut rest = bytes;
     'cut: loop {
@@ -67,13 +64,9 @@ pub fn tokens(alloc: Global, text: &str) -> Result<List<Token>, Stop>
 pub fn one_cut()
     ensures { (n : ℕ) → (seen : Seen) → (z : List ℕ) → (one other : Result (List Token) CutFault)
         → spec.Cut n seen z one → spec.Cut n seen z other → one ≡ other }
-{
-    longest();
-}
+{}
 
 /// `cut_of` computes the cut of each text.
 pub fn cut_is_computed()
     ensures { (text : List ℕ) → (cut : Result (List Token) CutFault) → (cut_of text ≡ cut) ↔ spec.CutInto text cut }
-{
-    longest();
-}
+{}

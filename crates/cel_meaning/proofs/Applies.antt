@@ -23,7 +23,7 @@ use Rattle.cel_types.specs.Means as rule
 use Rattle.cel_types.specs.Means.{Applies, is_strict}
 use Rattle.cel_types.specs.OfKind.{IsOf}
 use Rattle.cel_types.specs.Setting.{Setting}
-use Rattle.cel_types.specs.Table.{truth, int, str, time, length as span, strs}
+use Rattle.cel_types.specs.Kinds.{truth, int, str, time, length as span, strs}
 use Rattle.cel_types.specs.Zone.{zone_minutes}
 use Rattle.cel_types.proofs.OfKind.{AllOf}
 use Rattle.cel_meaning.specs.Apply.{apply, in_zone, lists_layer, member_layer, two_values}

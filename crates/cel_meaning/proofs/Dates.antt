@@ -207,6 +207,7 @@ same_part Seconds t is = refl
 same_part Milliseconds t is = refl
 
 pub part_is : (part : TimePart) (t : ℤ) → HasPart part t (part_outcome part t)
+unfolding part_outcome
 part_is part t = by (is_time t) refl
   where
     by : (b : Bool) → is_time t ≡ b

@@ -4,3 +4,11 @@ pub mod Applies
 pub mod MethodForms
 pub mod Steps
 pub mod Meaning
+pub mod Nodes
+pub mod Scanning
+pub mod Extracting
+pub mod Tagging
+pub mod Days
+pub mod PartIn
+pub mod Ranges
+pub mod TimeTexts

@@ -29,7 +29,7 @@ use Rattle.cel_types.specs.Means.{Applies, Concludes, Means, MeansAt, PartsMean,
 use Rattle.cel_types.specs.OfKind as of
 use Rattle.cel_types.specs.OfKind.{IsOf, OutcomeIsOf}
 use Rattle.cel_types.specs.Setting.{Setting}
-use Rattle.cel_types.specs.Table.{truth, int}
+use Rattle.cel_types.specs.Kinds.{truth, int}
 use Rattle.cel_types.proofs.OfKind.{AllOf, ResultIsOf, kept}
 use Rattle.cel_types.proofs.OneKind.{same_some}
 use Rattle.cel_types.proofs.OneOutcome.{one_outcome}
@@ -241,12 +241,14 @@ parts_are s place n below known (row.more {e = e} {es = es} {k = k} h r) all =
     (record { means = m; of_kind = kept m place k h }, parts_are s place n below known r (All-tail (λ (c : Expr). size c ≤ n) e es all))
 
 within_means : (s : Setting) (place : Place) (n : ℕ) (e : Expr) (k : Kind) → size e ≤ n → HasKind place e k → Means s e (outcome_within n s e)
+unfolding outcome_within
 within_means s place zero e k h has = absurd (one_at_least e h)
 within_means s place (suc n) e k h (row.node {f = f} {ks = ks} form fits have from) =
     rule.node (node_at s place (outcome_within n s) (out-Expr e) f ks k form fits
     (parts_are s place n (outcome_within n s) (λ c l small has. within_means s place n c l small has) have (smaller n e h)) from)
 
 pub outcome_means : (s : Setting) (place : Place) (e : Expr) (k : Kind) → HasKind place e k → Means s e (outcome_of s e)
+unfolding outcome_of
 outcome_means s place e k has = within_means s place (size e) e k (omega arith) has
 
 -- the function and the relation are one

@@ -60,20 +60,22 @@ joined f g m n same (c ∷ cs) h i =
 
 -- enough steps give the same
 enough : (s : Setting) (m n : ℕ) (e : Expr) → size e ≤ m → size e ≤ n → outcome_within m s e ≡ outcome_within n s e
+unfolding outcome_within
 enough s zero n e h i = absurd (one_at_least e h)
 enough s (suc m) zero e h i = absurd (one_at_least e i)
 enough s (suc m) (suc n) e h i =
     node_same s (outcome_within m s) (outcome_within n s) (out-Expr e)
     (joined (outcome_within m s) (outcome_within n s) m n (enough s m n) (children e) (smaller m e h) (smaller n e i))
 
+step_at : (s : Setting) (e : Expr) (n : ℕ) → size e ≡ n → outcome_of s e ≡ node_outcome s (outcome_of s) (out-Expr e)
+unfolding outcome_of outcome_within
+step_at s e zero is = absurd (one_at_least e (omega (arith, is)))
+step_at s e (suc n) is =
+    ap (λ z. outcome_within z s e) is
+    ∙ node_same s (outcome_within n s) (outcome_of s) (out-Expr e)
+    (All-weaker (λ (c : Expr). size c ≤ n) (Agree (outcome_within n s) (outcome_of s)) (λ c h. enough s n (size c) c h (omega arith)) (children e)
+    (smaller n e (omega (arith, is))))
+
 -- a tree comes to what its node makes of what its parts come to
 pub outcome_step : (s : Setting) (e : Expr) → outcome_of s e ≡ node_outcome s (outcome_of s) (out-Expr e)
-outcome_step s e = by (size e) refl
-  where
-    by : (n : ℕ) → size e ≡ n → outcome_of s e ≡ node_outcome s (outcome_of s) (out-Expr e)
-    by zero is = absurd (one_at_least e (omega (arith, is)))
-    by (suc n) is =
-        ap (λ z. outcome_within z s e) is
-        ∙ node_same s (outcome_within n s) (outcome_of s) (out-Expr e)
-        (All-weaker (λ (c : Expr). size c ≤ n) (Agree (outcome_within n s) (outcome_of s)) (λ c h. enough s n (size c) c h (omega arith)) (children e)
-        (smaller n e (omega (arith, is))))
+outcome_step s e = step_at s e (size e) refl

@@ -76,10 +76,10 @@ abbrev pub member_layer : Value → Value-F Value → Outcome
 member_layer v (Value-F.Many ws) = truth (is_in v ws)
 member_layer v _ = no_outcome
 
--- an operator whose sides have values
+-- an operator both of whose sides are evaluated, which those of `&&` and `||` aren't
 abbrev pub two_values : Op → Value → Value → Outcome
-two_values op.Or v w = disjunction (Given v) (Given w)
-two_values op.And v w = conjunction (Given v) (Given w)
+two_values op.Or v w = no_outcome
+two_values op.And v w = no_outcome
 two_values op.Lt v w = truth (is_below v w)
 two_values op.Le v w = truth (not (is_below w v))
 two_values op.Gt v w = truth (is_below w v)

@@ -72,6 +72,6 @@ date_part Seconds date nanos = pos (second_of nanos)
 date_part Milliseconds date nanos = pos (subsecond_of nanos / 1_000_000)
 
 -- the part of the date and the time of day at these nanoseconds since 1970
-abbrev pub part_outcome : TimePart → ℤ → Outcome
+unfoldable pub part_outcome : TimePart → ℤ → Outcome
 part_outcome part t =
     if is_time t then Given (value.Int (date_part part (date_at t) (since_midnight t))) else Stopped Range

@@ -2,4 +2,5 @@ pub mod Values
 pub mod Dates
 pub mod Apply
 pub mod OutcomeOf
+pub mod Results
 pub mod Laws

@@ -37,8 +37,8 @@ selected s (Some attribute) = attribute_outcome s.context attribute
 
 -- a function or method, whose parts are all evaluated
 abbrev pub called : Setting → Option Form → List Expr → Result (List Value) EvalFault → Outcome
-called s None arguments r = no_outcome
-called s (Some form) arguments (Err fault) = Stopped fault
+called s form arguments (Err fault) = Stopped fault
+called s None arguments (Ok vs) = no_outcome
 called s (Some form) arguments (Ok vs) = apply s form arguments vs
 
 abbrev pub called_outcome : Setting → (Expr → Outcome) → Expr-F Expr → Outcome
@@ -60,9 +60,9 @@ node_outcome s below (Expr-F.Two span op a b) = two_outcome op (below a) (below 
 node_outcome s below (Expr-F.Pick span d a b) = choice (below d) (below a) (below b)
 
 -- within so many steps down, which are enough for a tree of no more nodes
-abbrev pub outcome_within : ℕ → Setting → Expr → Outcome
+unfoldable pub outcome_within : ℕ → Setting → Expr → Outcome
 outcome_within zero s e = no_outcome
 outcome_within (suc n) s e = node_outcome s (outcome_within n s) (out-Expr e)
 
-abbrev pub outcome_of : Setting → Expr → Outcome
+unfoldable pub outcome_of : Setting → Expr → Outcome
 outcome_of s e = outcome_within (size e) s e

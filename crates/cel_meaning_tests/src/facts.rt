@@ -22,19 +22,40 @@ fn unbound(alloc: Global) -> Result<KeyFact, OutOfMemory> {
     })
 }
 
-fn context(alloc: Global) -> Result<Context, OutOfMemory> {
+// A key without a value.
+fn team(alloc: Global) -> Result<KeyFact, OutOfMemory> {
+    Ok(KeyFact {
+        number: 5,
+        name: Text::of(alloc, "1000/team")?,
+        value: None,
+    })
+}
+
+fn modified(alloc: Global) -> Result<List<Text>, OutOfMemory> {
+    let mut roles = List::new(alloc);
+    roles.push(Text::of(alloc, "roles/viewer")?)?;
+    roles.push(Text::of(alloc, "roles/editor")?)?;
+    Ok(roles)
+}
+
+pub fn context(alloc: Global) -> Result<Context, OutOfMemory> {
+    with_moment(alloc, 1_767_225_600)
+}
+
+pub fn with_moment(alloc: Global, seconds: i64) -> Result<Context, OutOfMemory> {
     let mut keys = List::new(alloc);
     keys.push(bound(alloc)?)?;
     keys.push(unbound(alloc)?)?;
+    keys.push(team(alloc)?)?;
     Ok(Context {
         resource_kind: Text::of(alloc, "kind")?,
         resource_service: Text::of(alloc, "service")?,
         resource_name: Text::of(alloc, "projects/1")?,
-        moment: Moment(1_767_225_600),
+        moment: Moment(seconds),
         keys,
         principal_kind: Text::of(alloc, "")?,
         principal_subject: Text::of(alloc, "ada@example.com")?,
-        modified: List::new(alloc),
+        modified: modified(alloc)?,
     })
 }
 

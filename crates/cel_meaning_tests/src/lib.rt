@@ -1,7 +1,9 @@
-//! Tests of the meaning side of conditions: the facts of a request and the checker.
+//! Tests of the meaning side of conditions: the facts of a request, the checker and the evaluator.
 #![tactic(auto)]
 
 #[cfg(test)]
 mod checking;
 #[cfg(test)]
 mod facts;
+#[cfg(test)]
+mod outcomes;

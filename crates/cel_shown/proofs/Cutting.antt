@@ -10,10 +10,8 @@ use Rattle.cel_tree.specs.declared.token.TokenKind.{TokenKind}
 use Rattle.cel_tree.specs.declared.token.TokenKind.TheVariants as kind
 use Rattle.cel_tree.specs.declared.token.Token.{Token}
 use Rattle.cel_tree.specs.Spelling.{is_letter, is_word, is_name, is_reserved, is_grammar_word}
-use Rattle.cel_lexeme.specs.declared.lexeme.Lexeme.{Lexeme}
 use Rattle.cel_lexeme.specs.declared.lexeme.Lexeme.TheVariants as lexeme
-use Rattle.cel_lexeme.specs.Lexeme.{IsLongest}
-use Rattle.cel_lexeme.specs.Front.{lexeme_at}
+use Rattle.cel_lexeme.proofs.Proper.{longest_is}
 use Rattle.cel_lexer.specs.declared.seen.Seen.{Seen}
 use Rattle.cel_lexer.specs.declared.stop.CutFault.{CutFault}
 use Rattle.cel_lexer.specs.Cut.{Cut, after, token_at}
@@ -126,15 +124,12 @@ blank_seen Dot y e = cc
 blank_seen Gap y e = cc
 blank_seen Operator y e = ap seen_of (sym (some_is e))
 
-abbrev Law : Type 0
-Law = (z : List ℕ) (t : Lexeme × ℕ) → lexeme_at z ≡ Some t → IsLongest z t.0 t.1
-
-worded : Law → (n : ℕ) (x y : Before) (k : TokenKind) (ps : List Piece) → step x (Word k) ≡ Some y → steps y ps ≡ Some Operand → IsCutFrom n y ps → IsCutFrom n x (Word k ∷ ps)
-worded law n x y k ps e s c =
+worded : (n : ℕ) (x y : Before) (k : TokenKind) (ps : List Piece) → step x (Word k) ≡ Some y → steps y ps ≡ Some Operand → IsCutFrom n y ps → IsCutFrom n x (Word k ∷ ps)
+worded n x y k ps e s c =
     let z = spelled k ++ bytes_of ps in
     let p = stepped x k (bytes_of ps) y e in
     let ready = p.ready (follows y ps s) in
-    let longest = law z (lexeme.Token k, length (spelled k)) ready.read in
+    let longest = longest_is z (lexeme.Token k, length (spelled k)) ready.read in
     let rest : Cut n (after (seen_of x) k) (drop (length (spelled k)) z) (Ok c.tokens)
     = subst (λ (y : List ℕ). Cut n (after (seen_of x) k) y (Ok c.tokens)) (sym (drop-append_seam (spelled k) (bytes_of ps)))
     (subst (λ (t : Seen). Cut n t (bytes_of ps) (Ok c.tokens)) (sym p.after) c.cut) in
@@ -144,17 +139,17 @@ worded law n x y k ps e s c =
       same = ap (λ (ks : List TokenKind). k ∷ ks) c.same;
     }
 
-by_step : Law → (n : ℕ) (x : Before) (p : Piece) (ps : List Piece) (o : Option Before) → step x p ≡ o → steps_from o ps ≡ Some Operand
+by_step : (n : ℕ) (x : Before) (p : Piece) (ps : List Piece) (o : Option Before) → step x p ≡ o → steps_from o ps ≡ Some Operand
     → ((y : Before) → steps y ps ≡ Some Operand → IsCutFrom n y ps) → IsCutFrom n x (p ∷ ps)
-by_step law n x p ps None e s go = cc
-by_step law n x Blank ps (Some y) e s go =
+by_step n x p ps None e s go = cc
+by_step n x Blank ps (Some y) e s go =
     let c = go y s in
     record { tokens = c.tokens; cut = blanked (subst (λ (t : Seen). Cut n t (bytes_of ps) (Ok c.tokens)) (blank_seen x y e) c.cut); same = c.same }
-by_step law n x (Word k) ps (Some y) e s go = worded law n x y k ps e s (go y s)
+by_step n x (Word k) ps (Some y) e s go = worded n x y k ps e s (go y s)
 
-cut_from : Law → (n : ℕ) (ps : List Piece) (x : Before) → steps x ps ≡ Some Operand → IsCutFrom n x ps
-cut_from law n [] x e = record { tokens = []; cut = subst (λ (y : Before). Cut n (seen_of y) [] (Ok [])) (sym (some_is e)) (cut.ended cut.end); same = refl }
-cut_from law n (p ∷ ps) x e = by_step law n x p ps (step x p) refl e (λ y s. cut_from law n ps y s)
+cut_from : (n : ℕ) (ps : List Piece) (x : Before) → steps x ps ≡ Some Operand → IsCutFrom n x ps
+cut_from n [] x e = record { tokens = []; cut = subst (λ (y : Before). Cut n (seen_of y) [] (Ok [])) (sym (some_is e)) (cut.ended cut.end); same = refl }
+cut_from n (p ∷ ps) x e = by_step n x p ps (step x p) refl e (λ y s. cut_from n ps y s)
 
-pub printed : Law → (ps : List Piece) → Separate ps → IsCut ps
-printed law ps s = let c = cut_from law (length (bytes_of ps)) ps Start s in record { tokens = c.tokens; cut = c.cut; same = c.same }
+pub printed : (ps : List Piece) → Separate ps → IsCut ps
+printed ps s = let c = cut_from (length (bytes_of ps)) ps Start s in record { tokens = c.tokens; cut = c.cut; same = c.same }

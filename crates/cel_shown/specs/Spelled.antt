@@ -1,6 +1,7 @@
 -- The bytes of pieces.
 use Rattle.std.specs.Prelude.{ℕ, true, false, if◌then◌else◌, ◌==◌, List, [], ◌∷◌, ◌++◌, codes}
 use Rattle.std.specs.Fmt.{decimal}
+use Rattle.std.specs.Str.{byte}
 use Rattle.cel_tree.specs.Spelling.{spelling}
 use Rattle.cel_tree.specs.declared.token.TokenKind.{TokenKind}
 use Rattle.cel_tree.specs.declared.token.TokenKind.TheVariants as kind
@@ -9,9 +10,9 @@ use Rattle.cel_shown.specs.Shown.{Piece, Blank, Word}
 -- a byte between double quotes: `"`, `\`, line feed, carriage return and tab are escaped
 abbrev pub escaped_byte : ℕ → List ℕ
 escaped_byte c =
-    if c == 34 then codes "\\\""
-    else (if c == 92 then codes "\\\\"
-    else (if c == 10 then codes "\\n" else (if c == 13 then codes "\\r" else (if c == 9 then codes "\\t" else c ∷ []))))
+    if c == byte "\"" then codes "\\\""
+    else (if c == byte "\\" then codes "\\\\"
+    else (if c == byte "\n" then codes "\\n" else (if c == byte "\r" then codes "\\r" else (if c == byte "\t" then codes "\\t" else c ∷ []))))
 
 abbrev pub escaped : List ℕ → List ℕ
 escaped [] = []
@@ -22,11 +23,11 @@ spelled (kind.Sign x) = spelling x
 spelled (kind.Truth true) = codes "true"
 spelled (kind.Truth false) = codes "false"
 spelled (kind.Number n) = decimal n
-spelled (kind.Str text) = 34 ∷ (escaped text ++ 34 ∷ [])
+spelled (kind.Str text) = byte "\"" ∷ (escaped text ++ byte "\"" ∷ [])
 spelled (kind.Name name) = name
 
 abbrev pub piece_text : Piece → List ℕ
-piece_text Blank = 32 ∷ []
+piece_text Blank = codes " "
 piece_text (Word k) = spelled k
 
 abbrev pub bytes_of : List Piece → List ℕ

@@ -10,8 +10,6 @@ ghost use Rattle.cel_shown.specs.Readable.{readable, DerivesAgain, all_pass};
 ghost use Rattle.cel_shown.specs.Separate.{Separate};
 ghost use Rattle.cel_shown.specs.Shorter.{NoLarger};
 
-use cel_lexeme::longest;
-
 /// What is written is derived again, with the same tree but for spans.
 pub fn written_is_derived()
     ensures { (a : Expr) → readable a ≡ true → (i j : Position) → Stands (written a) i j → DerivesAgain Whole i j a }
@@ -36,6 +34,4 @@ pub fn written_is_no_larger()
 /// The bytes of pieces that do not run together are cut into the tokens of the pieces.
 pub fn separate_is_cut()
     ensures { (ps : List Piece) → Separate ps → IsCut ps }
-{
-    longest();
-}
+{}

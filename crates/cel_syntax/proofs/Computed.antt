@@ -1,6 +1,5 @@
 -- What is computed from a text is its tree or its first fault, and there is no other.
 use Rattle.std.proofs.Common.{◌≡◌, ℕ, suc, ◌<◌, ◌≤◌, nat_lt, Bool, true, false, cond, List, length, Option, Some, None, Result, Ok, Err, refl, sym, ap, ◌∙◌, subst, arith}
-use Rattle.std.specs.Prelude.{◌↔◌}
 use Rattle.std.proofs.lemmas.Bool.{lt-ltb, le-ltb, ltb-true, leb-false}
 use Rattle.cel_tree.specs.declared.tree.Expr.{Expr}
 use Rattle.cel_tree.specs.declared.token.Token.{Token}
@@ -8,9 +7,11 @@ use Rattle.cel_lexer.specs.declared.stop.CutFault.{CutFault}
 use Rattle.cel_lexer.specs.declared.stop.CutFault.TheVariants as cut
 use Rattle.cel_lexer.specs.Cut.{CutInto}
 use Rattle.cel_lexer.specs.Tokens.{cut_of}
+use Rattle.cel_lexer.proofs.Only.{is_cut, cut_is_of}
 use Rattle.cel_grammar.specs.Depth.{deepest}
 use Rattle.cel_grammar.specs.Grammar.{IsExpr}
 use Rattle.cel_grammar.specs.Reader.{tree_in}
+use Rattle.cel_grammar.proofs.Whole.{is_tree, tree_is}
 use Rattle.cel_syntax.specs.declared.fault.SyntaxFault.{SyntaxFault}
 use Rattle.cel_syntax.specs.declared.fault.SyntaxKind.TheVariants.{TooLong, TooManyTokens, TooDeep, NotAnExpression}
 use Rattle.cel_syntax.specs.declared.fault.ReadStop.{ReadStop}
@@ -19,22 +20,6 @@ use Rattle.cel_syntax.specs.CelText as spec
 use Rattle.cel_syntax.specs.CelText.{CelText, Faults, Answers, Gives, most_bytes, most_tokens, most_open, at}
 use Rattle.cel_syntax.specs.Stops.{cut_fault}
 use Rattle.cel_syntax.specs.TreeOf.{tree_or_fault, tree_of_tokens, tree_of_cut, tree_of, Reads}
-
--- what is known of the cut and of the grammar
-pub record Laws : Type 0 where
-  pub is_cut : (text : List ℕ) (cut : Result (List Token) CutFault) → cut_of text ≡ cut → CutInto text cut
-  pub cut_is : (text : List ℕ) (cut : Result (List Token) CutFault) → CutInto text cut → cut_of text ≡ cut
-  pub is_tree : (tokens : List Token) (a : Expr) → tree_in tokens ≡ Some a → IsExpr tokens a
-  pub tree_is : (tokens : List Token) (a : Expr) → IsExpr tokens a → tree_in tokens ≡ Some a
-
-pub laws_of : ((text : List ℕ) (cut : Result (List Token) CutFault) → (cut_of text ≡ cut) ↔ CutInto text cut)
-    → ((tokens : List Token) (a : Expr) → (tree_in tokens ≡ Some a) ↔ IsExpr tokens a) → Laws
-laws_of cuts trees = record {
-  is_cut = λ text cut. (cuts text cut).0;
-  cut_is = λ text cut. (cuts text cut).1;
-  is_tree = λ tokens a. (trees tokens a).0;
-  tree_is = λ tokens a. (trees tokens a).1;
-}
 
 abbrev IsAnswer : List ℕ → Result Expr SyntaxFault → Type 0
 IsAnswer text (Ok a) = CelText text a
@@ -46,12 +31,12 @@ no_more a b e = let h = leb-false (suc a) b e in omega (arith, h)
 no_some : {x : Option Expr} {a : Expr} → x ≡ None → x ≡ Some a → ⊥
 no_some e f = cc
 
-module _ (laws : Laws) (text : List ℕ) where
+module _ (text : List ℕ) where
   -- what is computed is an answer
   derived : (tokens : List Token) → length text ≤ most_bytes → CutInto text (Ok tokens) → length tokens ≤ most_tokens → deepest 0 tokens ≤ most_open
       → (o : Option Expr) → tree_in tokens ≡ o → IsAnswer text (tree_or_fault o)
-  derived tokens s c f d (Some a) e = record { tokens = tokens; short = s; cut = c; few = f; shallow = d; derived = laws.is_tree tokens a e }
-  derived tokens s c f d None e = spec.not_an_expression s c f d (λ a h. no_some e (laws.tree_is tokens a h))
+  derived tokens s c f d (Some a) e = record { tokens = tokens; short = s; cut = c; few = f; shallow = d; derived = is_tree tokens a e }
+  derived tokens s c f d None e = spec.not_an_expression s c f d (λ a h. no_some e (tree_is tokens a h))
 
   shallow : (tokens : List Token) → length text ≤ most_bytes → CutInto text (Ok tokens) → length tokens ≤ most_tokens
       → (deep : Bool) → nat_lt most_open (deepest 0 tokens) ≡ deep → IsAnswer text (cond deep (Err (at 0 TooDeep)) (tree_or_fault (tree_in tokens)))
@@ -70,7 +55,7 @@ module _ (laws : Laws) (text : List ℕ) where
 
   short : (long : Bool) → nat_lt most_bytes (length text) ≡ long → IsAnswer text (cond long (Err (at 0 TooLong)) (tree_of_cut (cut_of text)))
   short true e = spec.too_long (ltb-true most_bytes (length text) e)
-  short false e = cut_into (cut_of text) (no_more most_bytes (length text) e) (laws.is_cut text (cut_of text) refl)
+  short false e = cut_into (cut_of text) (no_more most_bytes (length text) e) (is_cut text (cut_of text) refl)
 
   is_answer : IsAnswer text (tree_of text)
   unfolding tree_of
@@ -90,7 +75,7 @@ module _ (laws : Laws) (text : List ℕ) where
   of_cut : (result : Result (List Token) CutFault) → length text ≤ most_bytes → CutInto text result → tree_of text ≡ tree_of_cut result
   unfolding tree_of
   of_cut result s c =
-      ap (λ b. cond b (Err (at 0 TooLong)) (tree_of_cut (cut_of text))) (le-ltb most_bytes (length text) s) ∙ ap tree_of_cut (laws.cut_is text result c)
+      ap (λ b. cond b (Err (at 0 TooLong)) (tree_of_cut (cut_of text))) (le-ltb most_bytes (length text) s) ∙ ap tree_of_cut (cut_is_of text result c)
 
   of_few : (tokens : List Token) → length tokens ≤ most_tokens
       → tree_of_tokens tokens ≡ cond (nat_lt most_open (deepest 0 tokens)) (Err (at 0 TooDeep)) (tree_or_fault (tree_in tokens))
@@ -103,10 +88,10 @@ module _ (laws : Laws) (text : List ℕ) where
 
   no_tree : (tokens : List Token) → ((a : Expr) → IsExpr tokens a → ⊥) → (o : Option Expr) → tree_in tokens ≡ o → tree_or_fault o ≡ Err (at 0 NotAnExpression)
   no_tree tokens n None e = refl
-  no_tree tokens n (Some a) e = absurd (n a (laws.is_tree tokens a e))
+  no_tree tokens n (Some a) e = absurd (n a (is_tree tokens a e))
 
   pub text_is : (a : Expr) → CelText text a → tree_of text ≡ Ok a
-  text_is a c = of_cut (Ok c.tokens) c.short c.cut ∙ of_shallow c.tokens c.few c.shallow ∙ ap tree_or_fault (laws.tree_is c.tokens a c.derived)
+  text_is a c = of_cut (Ok c.tokens) c.short c.cut ∙ of_shallow c.tokens c.few c.shallow ∙ ap tree_or_fault (tree_is c.tokens a c.derived)
 
   pub fault_is : (f : SyntaxFault) → Faults text f → tree_of text ≡ Err f
   fault_is f (spec.too_long l) = long_text l
@@ -120,30 +105,22 @@ module _ (laws : Laws) (text : List ℕ) where
       of_cut (Ok ts) s c ∙ of_few ts m ∙ ap (λ b. cond b (Err (at 0 TooDeep)) (tree_or_fault (tree_in ts))) (lt-ltb most_open (deepest 0 ts) d)
   fault_is f (spec.not_an_expression {tokens = ts} s c m d n) = of_cut (Ok ts) s c ∙ of_shallow ts m d ∙ no_tree ts n (tree_in ts) refl
 
--- what is known of texts
-pub record Known : Type 0 where
-  pub tree : (text : List ℕ) (a : Expr) → CelText text a → tree_of text ≡ Ok a
-  pub fault : (text : List ℕ) (f : SyntaxFault) → Faults text f → tree_of text ≡ Err f
+pub one_tree : (text : List ℕ) (a b : Expr) → CelText text a → CelText text b → a ≡ b
+one_tree text a b c d = let e = text_is text a c in let f = text_is text b d in cc
 
-pub known_of : ((text : List ℕ) (a : Expr) → (tree_of text ≡ Ok a) ↔ CelText text a) → ((text : List ℕ) (f : SyntaxFault) → (tree_of text ≡ Err f) ↔ Faults text f) → Known
-known_of trees faults = record { tree = λ text a. (trees text a).1; fault = λ text f. (faults text f).1 }
+pub one_fault : (text : List ℕ) (f g : SyntaxFault) → Faults text f → Faults text g → f ≡ g
+one_fault text f g c d = let e = fault_is text f c in let h = fault_is text g d in cc
 
-pub one_tree : Known → (text : List ℕ) (a b : Expr) → CelText text a → CelText text b → a ≡ b
-one_tree known text a b c d = let e = known.tree text a c in let f = known.tree text b d in cc
-
-pub one_fault : Known → (text : List ℕ) (f g : SyntaxFault) → Faults text f → Faults text g → f ≡ g
-one_fault known text f g c d = let e = known.fault text f c in let h = known.fault text g d in cc
-
-pub not_both : Known → (text : List ℕ) (a : Expr) (f : SyntaxFault) → CelText text a → Faults text f → ⊥
-not_both known text a f c d = let e = known.tree text a c in let h = known.fault text f d in cc
+pub not_both : (text : List ℕ) (a : Expr) (f : SyntaxFault) → CelText text a → Faults text f → ⊥
+not_both text a f c d = let e = text_is text a c in let h = fault_is text f d in cc
 
 -- an answer is what is computed, and keeps no tree back
-pub exact : Known → (text : List ℕ) (answer : Result Expr ReadStop) → Answers text answer → Reads (tree_of text) answer
-exact known text (Ok a) c = known.tree text a c
-exact known text (Err (Syntax f)) d = known.fault text f d
-exact known text (Err OutOfMemory) d = tt
+pub exact : (text : List ℕ) (answer : Result Expr ReadStop) → Answers text answer → Reads (tree_of text) answer
+exact text (Ok a) c = text_is text a c
+exact text (Err (Syntax f)) d = fault_is text f d
+exact text (Err OutOfMemory) d = tt
 
-pub complete : Known → (text : List ℕ) (answer : Result Expr ReadStop) → Answers text answer → (a : Expr) → CelText text a → Gives a answer
-complete known text (Ok b) c a d = one_tree known text b a c d
-complete known text (Err (Syntax f)) c a d = not_both known text a f d c
-complete known text (Err OutOfMemory) c a d = tt
+pub complete : (text : List ℕ) (answer : Result Expr ReadStop) → Answers text answer → (a : Expr) → CelText text a → Gives a answer
+complete text (Ok b) c a d = one_tree text b a c d
+complete text (Err (Syntax f)) c a d = not_both text a f d c
+complete text (Err OutOfMemory) c a d = tt

@@ -16,7 +16,6 @@ pub fn read(alloc: Global, text: &str) -> Result<Expr, ReadStop>
     // A text with a tree is never refused, unless memory runs out.
     ensures complete { (a : Expr) → CelText text.now a → Gives a result }
 {
-    tree_is_computed();
     answered(alloc, text)
 }
 
@@ -33,7 +32,7 @@ fn answered(alloc: Global, text: &str) -> Result<Expr, ReadStop>
     if depth(tokens.as_slice()) > MAX_DEPTH {
         return Err(fault(0, SyntaxKind::TooDeep));
     }
-    let tree = cel_grammar::read(alloc, tokens.as_slice())?;
+    let tree = cel_grammar::read(alloc, tokens)?;
     Ok(tree)
 }
 
@@ -41,16 +40,11 @@ fn answered(alloc: Global, text: &str) -> Result<Expr, ReadStop>
 pub fn tree_is_computed()
     ensures tree { (text : List ℕ) (a : Expr) → (tree_of text ≡ Ok a) ↔ CelText text a }
     ensures fault { (text : List ℕ) (f : SyntaxFault) → (tree_of text ≡ Err f) ↔ Faults text f }
-{
-    cel_lexer::cut_is_computed();
-    cel_grammar::tree_is_computed();
-}
+{}
 
 /// A text has at most one tree, at most one fault, and not both.
 pub fn one_answer()
     ensures tree { (text : List ℕ) (a b : Expr) → CelText text a → CelText text b → a ≡ b }
     ensures fault { (text : List ℕ) (f g : SyntaxFault) → Faults text f → Faults text g → f ≡ g }
     ensures not_both { (text : List ℕ) (a : Expr) (f : SyntaxFault) → CelText text a → Faults text f → ⊥ }
-{
-    tree_is_computed();
-}
+{}

@@ -2,6 +2,7 @@
 use Rattle.std.specs.Prelude.{◌≡◌, ◌≤◌, ◌^◌, ℕ, Bool, true, false, not, ◌&&◌, ◌||◌, ◌==◌, List, [], ◌∷◌, codes, bytes_eq, IsUtf8}
 use Rattle.std.specs.Char.{is_ascii_alphabetic, is_ascii_digit}
 use Rattle.std.specs.List.{list_all, list_any}
+use Rattle.std.specs.Str.{byte}
 use Rattle.cel_tree.specs.declared.token.Sign.{Sign}
 use Rattle.cel_tree.specs.declared.token.Sign.TheVariants as sign
 use Rattle.cel_tree.specs.declared.token.TokenKind.{TokenKind}
@@ -35,7 +36,7 @@ spelling sign.CloseBracket = codes "]"
 
 -- a word is a letter or `_`, and then letters, `_` and digits
 abbrev pub is_letter : ℕ → Bool
-is_letter b = is_ascii_alphabetic b || b == 95
+is_letter b = is_ascii_alphabetic b || b == byte "_"
 
 abbrev pub is_word_byte : ℕ → Bool
 is_word_byte b = is_letter b || is_ascii_digit b

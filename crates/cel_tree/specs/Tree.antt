@@ -1,5 +1,5 @@
 -- Words over trees, each by one layer and the fold over it.
-use Rattle.std.specs.Prelude.{ℕ, ◌+◌, List, sum, map}
+use Rattle.std.specs.Prelude.{ℕ, ◌+◌, sum}
 use Rattle.cel_tree.specs.declared.tree.Span.{Span}
 use Rattle.cel_tree.specs.declared.tree.Expr.{Expr, fold-Expr}
 use Rattle.cel_tree.specs.declared.tree.Expr.TheOpen.{Expr-F}
@@ -61,6 +61,3 @@ layer_size (Expr-F.Pick span condition if_true if_false) = condition + if_true +
 
 abbrev pub size : Expr → ℕ
 size = fold-Expr ℕ layer_size
-
-abbrev pub sizes : List Expr → ℕ
-sizes exprs = sum (map size exprs)

@@ -6,9 +6,11 @@
 
 mod sameness;
 mod token;
+mod tokens;
 mod tree;
 
 pub use sameness::same;
 pub use sqlite_items::Boxed;
 pub use token::{Sign, Token, TokenKind};
+pub use tokens::Tokens;
 pub use tree::{Expr, Op, Span};

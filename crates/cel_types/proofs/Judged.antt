@@ -7,18 +7,16 @@ use Rattle.cel_types.specs.declared.checking.TypeKind.{TypeKind}
 use Rattle.cel_types.specs.declared.checking.TypeKind.TheVariants.{UnknownName, NotHere, NotLiteral, BadTemplate, BadZone, WrongKind}
 use Rattle.cel_types.specs.declared.form.Form.{Form}
 use Rattle.cel_types.specs.declared.kind.Kind.{Kind}
-use Rattle.cel_types.specs.declared.kind.Kinds.{Kinds}
 use Rattle.cel_types.specs.declared.kind.Place.{Place}
 use Rattle.cel_types.specs.Arguments.{arguments_of, has_literals, has_template, has_zone}
 use Rattle.cel_types.specs.Forms.{form_of}
 use Rattle.cel_types.specs.HasKind as rule
 use Rattle.cel_types.specs.HasKind.{HasKind, HaveKinds, KindFrom, Fits, FirstFault, children, fault_of, fault_in}
-use Rattle.cel_types.specs.Kinds.{kinds_of}
-use Rattle.cel_types.specs.Nodes.{AreKinds, form_kind, kind_or_fault, node_kind}
+use Rattle.cel_types.specs.Nodes.{form_kind, kind_or_fault, node_kind}
 use Rattle.cel_types.specs.Places.{stands_in}
-use Rattle.cel_types.specs.Table.{kind_from}
+use Rattle.cel_types.specs.Rows.{kind_from}
 use Rattle.cel_types.proofs.OneKind.{same_some, same_kinds}
-use Rattle.cel_types.proofs.TableFacts.{computed, given}
+use Rattle.cel_types.proofs.KindFrom.{computed, given}
 
 -- a fault at the first byte of a node
 abbrev pub at : Expr → TypeKind → TypeFault
@@ -67,7 +65,7 @@ fault_is place e f a b c d form p q r s =
 
 last : (place : Place) (e : Expr) (ks : List Kind) (f : Form) (o : Option Kind) → HaveKinds place (children e) ks
     → form_of (out-Expr e) ≡ Some f → Fits place f (arguments_of (out-Expr e)) → fault_of place e ≡ WrongKind
-    → kind_from f (kinds_of ks) ≡ o → Answers place e (kind_or_fault o)
+    → kind_from f ks ≡ o → Answers place e (kind_or_fault o)
 last place e ks f (Some k) have form fits fault is = rule.node form fits have (given f ks k is)
 last place e ks f None have form fits fault is =
     faulty place e ks WrongKind have fault
@@ -78,7 +76,7 @@ decide : (place : Place) (e : Expr) (ks : List Kind) (f : Form) (a b c d : Bool)
     → stands_in place f ≡ a → has_literals f (arguments_of (out-Expr e)) ≡ b
     → has_template f (arguments_of (out-Expr e)) ≡ c → has_zone f (arguments_of (out-Expr e)) ≡ d
     → Answers place e (cond (not a) (Err NotHere) (cond (not b) (Err NotLiteral) (cond (not c) (Err BadTemplate)
-    (cond (not d) (Err BadZone) (kind_or_fault (kind_from f (kinds_of ks)))))))
+    (cond (not d) (Err BadZone) (kind_or_fault (kind_from f ks))))))
 decide place e ks f false b c d have form p q r s =
     faulty place e ks NotHere have (fault_is place e f false b c d form p q r s)
     (λ k h. never_true p (row_of h ks f have form).0.here)
@@ -92,11 +90,11 @@ decide place e ks f true true true false have form p q r s =
     faulty place e ks BadZone have (fault_is place e f true true true false form p q r s)
     (λ k h. never_true s (row_of h ks f have form).0.zone)
 decide place e ks f true true true true have form p q r s =
-    last place e ks f (kind_from f (kinds_of ks)) have form (record { here = p; literals = q; template = r; zone = s })
+    last place e ks f (kind_from f ks) have form (record { here = p; literals = q; template = r; zone = s })
     (fault_is place e f true true true true form p q r s) refl
 
 judged_form : (place : Place) (e : Expr) (ks : List Kind) (o : Option Form) → HaveKinds place (children e) ks
-    → form_of (out-Expr e) ≡ o → Answers place e (form_kind o place (arguments_of (out-Expr e)) (kinds_of ks))
+    → form_of (out-Expr e) ≡ o → Answers place e (form_kind o place (arguments_of (out-Expr e)) ks)
 judged_form place e ks None have form =
     faulty place e ks UnknownName have (ap (λ z. fault_in z place (arguments_of (out-Expr e))) form) (λ k d. not_unknown d form)
 judged_form place e ks (Some f) have form =
@@ -105,11 +103,5 @@ judged_form place e ks (Some f) have form =
 
 -- what is computed at a node whose parts have kinds
 pub judged : (place : Place) (e : Expr) (ks : List Kind) → HaveKinds place (children e) ks
-    → Answers place e (node_kind place (out-Expr e) (kinds_of ks))
+    → Answers place e (node_kind place (out-Expr e) ks)
 judged place e ks have = judged_form place e ks (form_of (out-Expr e)) have refl
-
-pub judged_at : (place : Place) (e : Expr) (kinds : Kinds) (r : Result Kind TypeKind) → AreKinds place (children e) kinds
-    → r ≡ node_kind place (out-Expr e) kinds → Answers place e r
-judged_at place e kinds r h is =
-    subst (λ (z : Result Kind TypeKind). Answers place e z) (sym is)
-    (subst (λ (z : Kinds). Answers place e (node_kind place (out-Expr e) z)) (sym h.2) (judged place e h.0 h.1))

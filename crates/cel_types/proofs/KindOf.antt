@@ -9,7 +9,6 @@ use Rattle.cel_types.specs.HasKind.{FirstFault, FirstFaultAmong, HasKind, HaveKi
 use Rattle.cel_types.specs.declared.checking.TypeFault.{TypeFault}
 use Rattle.cel_types.specs.declared.checking.TypeKind.{TypeKind}
 use Rattle.cel_types.specs.KindOf.{all_kinds, at_node, from_parts, kind_of, kind_within, with_first}
-use Rattle.cel_types.specs.Kinds.{kinds_of}
 use Rattle.cel_types.specs.Nodes.{node_kind}
 use Rattle.cel_types.specs.declared.kind.Kind.{Kind}
 use Rattle.cel_types.specs.declared.kind.Place.{Place}
@@ -37,8 +36,8 @@ among_so place f (e ∷ es) all =
       | Err fault ↦ λ fails. FirstFaultAmong.first fails
     ] (All-head (λ (c : Expr). IsSo place c (f c)) e es all)
 
-node_so : (place : Place) (e : Expr) (ks : List Kind) → HaveKinds place (children e) ks → IsSo place e (at_node e (node_kind place (out-Expr e) (kinds_of ks)))
-node_so place e ks have = by (node_kind place (out-Expr e) (kinds_of ks)) (judged place e ks have)
+pub node_so : (place : Place) (e : Expr) (ks : List Kind) → HaveKinds place (children e) ks → IsSo place e (at_node e (node_kind place (out-Expr e) ks))
+node_so place e ks have = by (node_kind place (out-Expr e) ks) (judged place e ks have)
   where
     by : (r : Result Kind TypeKind) → Answers place e r → IsSo place e (at_node e r)
     by (Ok k) h = h

@@ -1,4 +1,4 @@
-pub mod TableFacts
+pub mod KindFrom
 pub mod OneKind
 pub mod Judged
 pub mod Walk

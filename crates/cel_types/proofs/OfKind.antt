@@ -36,17 +36,17 @@ use Rattle.cel_types.specs.Calendar.{HasPart}
 use Rattle.cel_types.specs.Forms.{form_of}
 use Rattle.cel_types.specs.HasKind as kinded
 use Rattle.cel_types.specs.HasKind.{HasKind, HaveKinds, KindFrom, AllAre, parts}
-use Rattle.cel_types.specs.Kinds.{kinds_of}
+use Rattle.cel_types.specs.Kinds.{truth, int, str, time, length, strs, attribute_kind}
 use Rattle.cel_types.specs.Setting.{Setting}
 use Rattle.cel_types.specs.Means as rule
 use Rattle.cel_types.specs.Means.{Means, MeansAt, PartsMean, Concludes, Applies, conjunction, disjunction, first_stop, comes_to, texts_of}
 use Rattle.cel_types.specs.OfKind as of
 use Rattle.cel_types.specs.OfKind.{IsOf, OutcomeIsOf, AllHaveBase, layer_is_of}
-use Rattle.cel_types.specs.Table.{truth, int, str, time, length, strs, kind_from, attribute_kind}
+use Rattle.cel_types.specs.Rows.{kind_from}
 use Rattle.cel_types.specs.Tags.{tag_outcome, attribute_outcome, of_key, key_with_id, has_short, has_id}
 use Rattle.cel_types.specs.TimeText.{time_or_fault, time_of_text, length_or_fault, length_of_text}
 use Rattle.cel_types.proofs.OneKind.{same_some}
-use Rattle.cel_types.proofs.TableFacts.{computed}
+use Rattle.cel_types.proofs.KindFrom.{computed}
 
 -- the values are of the kinds, one each
 abbrev pub AllOf : List Value → List Kind → Type 0
@@ -198,8 +198,8 @@ two_kinds v w a b (k ∷ l ∷ []) p q h = ap (λ z. z ∷ l ∷ []) (p k h.0) �
 two_kinds v w a b (k ∷ l ∷ m ∷ ms) p q h = absurd h.1.1
 
 -- the kind of a row with these kinds of parts
-row_kind : {f : Form} {ks ls : List Kind} {k g : Kind} → KindFrom f ks k → ks ≡ ls → kind_from f (kinds_of ls) ≡ Some g → g ≡ k
-row_kind {f} {ks} {ls} {k} {g} from same is = same_some (sym is ∙ ap (λ z. kind_from f (kinds_of z)) (sym same) ∙ computed from)
+row_kind : {f : Form} {ks ls : List Kind} {k g : Kind} → KindFrom f ks k → ks ≡ ls → kind_from f ls ≡ Some g → g ≡ k
+row_kind {f} {ks} {ls} {k} {g} from same is = same_some (sym is ∙ ap (λ z. kind_from f z) (sym same) ∙ computed from)
 
 moved : {o : Outcome} {g k : Kind} → g ≡ k → OutcomeIsOf o g → OutcomeIsOf o k
 moved {o} e h = subst (λ z. OutcomeIsOf o z) e h

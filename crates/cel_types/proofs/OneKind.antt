@@ -7,9 +7,9 @@ use Rattle.cel_types.specs.declared.kind.Kind.{Kind}
 use Rattle.cel_types.specs.declared.kind.Place.{Place}
 use Rattle.cel_types.specs.HasKind as rule
 use Rattle.cel_types.specs.HasKind.{HasKind, HaveKinds, KindFrom, FirstFault, FirstFaultAmong, IsFaultOf, children}
-use Rattle.cel_types.specs.Kinds.{kinds_of}
-use Rattle.cel_types.specs.Table.{kind_from, truth}
-use Rattle.cel_types.proofs.TableFacts.{computed}
+use Rattle.cel_types.specs.Kinds.{truth}
+use Rattle.cel_types.specs.Rows.{kind_from}
+use Rattle.cel_types.proofs.KindFrom.{computed}
 
 pub same_some : {A : Type 0} {a b : A} → Some a ≡ Some b → a ≡ b
 same_some e = cc
@@ -17,7 +17,7 @@ same_some e = cc
 -- one form and the same kinds of parts have one kind
 one_row : {f g : Form} {ks ls : List Kind} {k l : Kind} → f ≡ g → ks ≡ ls → KindFrom f ks k → KindFrom g ls l → k ≡ l
 one_row {f} {g} {ks} {ls} fg kl r s =
-    same_some (sym (computed r) ∙ ap (λ z. kind_from z (kinds_of ks)) fg ∙ ap (λ z. kind_from g (kinds_of z)) kl ∙ computed s)
+    same_some (sym (computed r) ∙ ap (λ z. kind_from z ks) fg ∙ ap (λ z. kind_from g z) kl ∙ computed s)
 
 pair_up : {k l : Kind} {ks ls : List Kind} → k ≡ l → ks ≡ ls → k ∷ ks ≡ l ∷ ls
 pair_up {k} {l} {ks} {ls} e h = ap (λ z. z ∷ ks) e ∙ ap (λ z. l ∷ z) h

@@ -22,7 +22,7 @@ prefix_of template = before_first (λ b. b == 123) template
 abbrev pub suffix_of : List ℕ → List ℕ
 suffix_of template = after_first (λ b. b == 125) template
 
-abbrev up_to : List ℕ → List ℕ → List ℕ
+abbrev pub up_to : List ℕ → List ℕ → List ℕ
 up_to [] text = text
 up_to (b ∷ bs) text = unwrap_or (before_text (b ∷ bs) text) []
 

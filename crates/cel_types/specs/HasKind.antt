@@ -20,8 +20,8 @@ use Rattle.cel_types.specs.declared.kind.Kind.TheVariants.{One, Many}
 use Rattle.cel_types.specs.declared.kind.Place.{Place}
 use Rattle.cel_types.specs.Arguments.{arguments_of, has_literals, has_template, has_zone}
 use Rattle.cel_types.specs.Forms.{form_of, attribute_of, is_whole}
+use Rattle.cel_types.specs.Kinds.{truth, int, str, time, length, strs, attribute_kind}
 use Rattle.cel_types.specs.Places.{stands_in}
-use Rattle.cel_types.specs.Table.{truth, int, str, time, length, strs, attribute_kind}
 
 -- the nodes directly below a node, from left to right. An attribute, a tag function with its base and its
 -- arguments, and `api.getAttribute(..)` with its arguments are one node each

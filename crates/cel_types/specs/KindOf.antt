@@ -4,9 +4,8 @@ use Rattle.cel_tree.specs.Tree.{size, span_of}
 use Rattle.cel_tree.specs.declared.tree.Expr.{Expr, out-Expr}
 use Rattle.cel_types.specs.Condition.{Condition}
 use Rattle.cel_types.specs.HasKind.{children}
-use Rattle.cel_types.specs.Kinds.{is_kind, kinds_of}
+use Rattle.cel_types.specs.Kinds.{is_kind, truth}
 use Rattle.cel_types.specs.Nodes.{node_kind}
-use Rattle.cel_types.specs.Table.{truth}
 use Rattle.cel_types.specs.declared.checking.TypeFault.{TypeFault}
 use Rattle.cel_types.specs.declared.checking.TypeKind.{TypeKind}
 use Rattle.cel_types.specs.declared.checking.TypeKind.TheVariants.{NotBool}
@@ -24,7 +23,7 @@ at_node e (Err what) = Err (fault_at e what)
 -- the kind of a node whose parts have these kinds, or the first fault
 abbrev pub from_parts : Place → Expr → Result (List Kind) TypeFault → Result Kind TypeFault
 from_parts place e (Err fault) = Err fault
-from_parts place e (Ok ks) = at_node e (node_kind place (out-Expr e) (kinds_of ks))
+from_parts place e (Ok ks) = at_node e (node_kind place (out-Expr e) ks)
 
 abbrev pub with_first : Kind → Result (List Kind) TypeFault → Result (List Kind) TypeFault
 with_first k (Ok ks) = Ok (k ∷ ks)

@@ -9,10 +9,10 @@ use Rattle.cel_types.specs.declared.kind.Kind.{Kind}
 use Rattle.cel_types.specs.declared.kind.Place.{Place}
 use Rattle.cel_types.specs.HasKind.{HasKind, FirstFault, IsFaultOf}
 use Rattle.cel_types.specs.KindOf.{kind_of}
+use Rattle.cel_types.specs.Kinds.{truth}
 use Rattle.cel_types.specs.Means.{Means}
 use Rattle.cel_types.specs.Setting.{Setting}
 use Rattle.cel_types.specs.OfKind.{OutcomeIsOf}
-use Rattle.cel_types.specs.Table.{truth}
 
 -- a tree has at most one kind in a place
 abbrev pub AtMostOneKind : Type 0

@@ -4,8 +4,8 @@ pub mod Zone
 pub mod Template
 pub mod Arguments
 pub mod Places
-pub mod Table
 pub mod HasKind
+pub mod Rows
 pub mod Nodes
 pub mod Condition
 pub mod KindOf

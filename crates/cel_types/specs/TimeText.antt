@@ -1,5 +1,5 @@
 -- What `timestamp` and `duration` read.
-use Rattle.std.specs.Prelude.{ℕ, ◌+◌, ◌*◌, ◌/◌, ◌^◌, ◌==◌, nat_le, Bool, true, false, ◌&&◌, if◌then◌else◌, Option, Some, None, option_and_then, List, [], ◌∷◌, length, drop, take_while, ℤ, pos, neg_ℤ, ◌+ℤ◌, ◌-ℤ◌, ◌*ℤ◌, codes}
+use Rattle.std.specs.Prelude.{ℕ, ◌+◌, ◌*◌, ◌/◌, ◌^◌, ◌==◌, nat_le, Bool, true, false, ◌&&◌, if◌then◌else◌, Option, Some, None, option_and_then, List, [], ◌∷◌, length, take, drop, take_while, slice_index, ℤ, pos, neg_ℤ, ◌+ℤ◌, ◌-ℤ◌, ◌*ℤ◌, codes}
 use Rattle.std.specs.Char.{is_ascii_digit, is_ascii_lowercase}
 use Rattle.std.specs.Option.{option_map}
 use Rattle.std.specs.Str.{bytes_eq}
@@ -8,6 +8,8 @@ use Rattle.jiff_core.specs.Calendar.{days_from_civil, days_in_month}
 use Rattle.cel_value.specs.declared.value.EvalFault.TheVariants.{BadTime, BadDuration}
 use Rattle.cel_value.specs.declared.value.Outcome.{Outcome}
 use Rattle.cel_value.specs.declared.value.Outcome.TheVariants.{Stopped}
+use Rattle.cel_types.specs.declared.unit.TimeUnit.{TimeUnit}
+use Rattle.cel_types.specs.declared.unit.TimeUnit.TheVariants.{Hour, Minute, Second, Millisecond, Microsecond, Nanosecond}
 use Rattle.cel_types.specs.Bounds.{time_outcome, length_outcome, nanos_of_seconds}
 use Rattle.cel_types.specs.Zone.{two_digits, offset_minutes}
 
@@ -15,10 +17,10 @@ infixl 10 ◌>>=◌
 abbrev ◌>>=◌ : {A B : Type 0} → Option A → (A → Option B) → Option B
 o >>= f = option_and_then f o
 
-abbrev is_empty : List ℕ → Bool
+abbrev pub is_empty : List ℕ → Bool
 is_empty text = length text == 0
 
-abbrev begins_with : ℕ → List ℕ → Bool
+abbrev pub begins_with : ℕ → List ℕ → Bool
 begins_with byte [] = false
 begins_with byte (b ∷ bs) = b == byte
 
@@ -43,55 +45,71 @@ has_fraction text =
 
 -- a fraction of a unit in nanoseconds; what is below a nanosecond is dropped
 abbrev pub fraction_nanos : ℕ → List ℕ → ℕ
-fraction_nanos unit digits = digits_value 10 digits * unit / 10 ^ length digits
+fraction_nanos nanos digits = digits_value 10 digits * nanos / 10 ^ length digits
 
-abbrev is_date : ℕ → ℕ → ℕ → Bool
+-- a day of the calendar, by its number since 1970
+abbrev pub is_date : ℕ → ℕ → ℕ → Bool
 is_date year month day =
     nat_le 1 month && nat_le month 12 && nat_le 1 day && nat_le day (days_in_month (pos year) month)
 
-abbrev is_clock : ℕ → ℕ → ℕ → Bool
+abbrev pub day_number : ℕ → ℕ → ℕ → Option ℤ
+day_number year month day = if is_date year month day then Some (days_from_civil (pos year) month day) else None
+
+-- a time of day, by its seconds since midnight
+abbrev pub is_clock : ℕ → ℕ → ℕ → Bool
 is_clock hour minute second = nat_le hour 23 && nat_le minute 59 && nat_le second 59
 
--- seconds since 1970
-abbrev seconds_of : ℕ → ℕ → ℕ → ℕ → ℕ → ℕ → ℤ
-seconds_of year month day hour minute second =
-    days_from_civil (pos year) month day *ℤ pos 86_400 +ℤ pos (3_600 * hour + 60 * minute + second)
+abbrev pub clock_seconds : ℕ → ℕ → ℕ → Option ℕ
+clock_seconds hour minute second = if is_clock hour minute second then Some (3_600 * hour + 60 * minute + second) else None
 
-abbrev date_and_clock : ℕ → ℕ → ℕ → ℕ → ℕ → ℕ → Option ℤ
-date_and_clock year month day hour minute second =
-    if is_date year month day && is_clock hour minute second then Some (seconds_of year month day hour minute second) else None
+abbrev date_of_digits : (a b c d e f g h : ℕ) → Option ℤ
+date_of_digits a b c d e f g h = do
+  century ← two_digits a b
+  year ← two_digits c d
+  month ← two_digits e f
+  day ← two_digits g h
+  day_number (100 * century + year) month day
+
+-- `YYYY-MM-DD`, a real date
+abbrev pub date_of_text : List ℕ → Option ℤ
+date_of_text (a ∷ b ∷ c ∷ d ∷ dash ∷ e ∷ f ∷ dash' ∷ g ∷ h ∷ []) =
+    if dash == 45 && dash' == 45 then date_of_digits a b c d e f g h else None
+date_of_text _ = None
+
+abbrev clock_of_digits : (a b c d e f : ℕ) → Option ℕ
+clock_of_digits a b c d e f = do
+  hour ← two_digits a b
+  minute ← two_digits c d
+  second ← two_digits e f
+  clock_seconds hour minute second
+
+-- `HH:MM:SS`
+abbrev pub clock_of_text : List ℕ → Option ℕ
+clock_of_text (a ∷ b ∷ colon ∷ c ∷ d ∷ colon' ∷ e ∷ f ∷ []) =
+    if colon == 58 && colon' == 58 then clock_of_digits a b c d e f else None
+clock_of_text _ = None
 
 -- `Z`, `+HH:MM` or `-HH:MM`
-abbrev utc_offset : List ℕ → Option ℤ
+abbrev pub utc_offset : List ℕ → Option ℤ
 utc_offset text = if bytes_eq text (codes "Z") then Some (pos 0) else offset_minutes text
 
--- nanoseconds since 1970 of a clock's second, with what stands behind it: a fraction and an offset
-abbrev with_offset : List ℕ → ℤ → Option ℤ
+-- nanoseconds since 1970 of a second that a clock shows, with what stands behind it: a fraction and an offset
+abbrev pub with_offset : List ℕ → ℤ → Option ℤ
 with_offset text seconds =
     if has_fraction text then
     option_map (λ minutes. nanos_of_seconds (seconds -ℤ minutes *ℤ pos 60) +ℤ pos (fraction_nanos 1_000_000_000 (fraction_at text)))
     (utc_offset (behind_fraction text))
     else None
 
--- the digits of a date and a time of day, two by two, and what stands behind them
-abbrev time_of_digits : (a b c d e f g h i j k l m n : ℕ) → List ℕ → Option ℤ
-time_of_digits a b c d e f g h i j k l m n rest = do
-  century ← two_digits a b
-  year ← two_digits c d
-  month ← two_digits e f
-  day ← two_digits g h
-  hour ← two_digits i j
-  minute ← two_digits k l
-  second ← two_digits m n
-  seconds ← date_and_clock (100 * century + year) month day hour minute second
-  with_offset rest seconds
+abbrev date_and_clock : List ℕ → Option ℤ
+date_and_clock text = do
+  day ← date_of_text (take 10 text)
+  clock ← clock_of_text (take 8 (drop 11 text))
+  with_offset (drop 19 text) (day *ℤ pos 86_400 +ℤ pos clock)
 
--- `YYYY-MM-DDTHH:MM:SS`, optionally `.` and 1 to 9 digits, and an offset, with a real date
+-- `YYYY-MM-DDTHH:MM:SS`, optionally `.` and 1 to 9 digits, and an offset
 abbrev pub time_of_text : List ℕ → Option ℤ
-time_of_text (a ∷ b ∷ c ∷ d ∷ dash ∷ e ∷ f ∷ dash' ∷ g ∷ h ∷ letter ∷ i ∷ j ∷ colon ∷ k ∷ l ∷ colon' ∷ m ∷ n ∷ rest) =
-    if (dash == 45) && (dash' == 45) && (letter == 84) && (colon == 58) && (colon' == 58)
-    then time_of_digits a b c d e f g h i j k l m n rest else None
-time_of_text _ = None
+time_of_text text = if slice_index text 10 == 84 then date_and_clock text else None
 
 abbrev pub time_or_fault : Option ℤ → Outcome
 time_or_fault None = Stopped BadTime
@@ -100,37 +118,51 @@ time_or_fault (Some t) = time_outcome t
 abbrev pub timestamp_outcome : List ℕ → Outcome
 timestamp_outcome text = time_or_fault (time_of_text text)
 
--- the units of a length in their order, each with its nanoseconds
-abbrev pub units : List (List ℕ × ℕ)
-units =
-    (codes "h", 3_600_000_000_000) ∷ (codes "m", 60_000_000_000) ∷ (codes "s", 1_000_000_000)
-    ∷ (codes "ms", 1_000_000) ∷ (codes "us", 1_000) ∷ (codes "ns", 1) ∷ []
+-- the units of a length in their order
+abbrev pub units : List TimeUnit
+units = Hour ∷ Minute ∷ Second ∷ Millisecond ∷ Microsecond ∷ Nanosecond ∷ []
+
+abbrev pub unit_name : TimeUnit → List ℕ
+unit_name Hour = codes "h"
+unit_name Minute = codes "m"
+unit_name Second = codes "s"
+unit_name Millisecond = codes "ms"
+unit_name Microsecond = codes "us"
+unit_name Nanosecond = codes "ns"
+
+abbrev pub unit_nanos : TimeUnit → ℕ
+unit_nanos Hour = 3_600_000_000_000
+unit_nanos Minute = 60_000_000_000
+unit_nanos Second = 1_000_000_000
+unit_nanos Millisecond = 1_000_000
+unit_nanos Microsecond = 1_000
+unit_nanos Nanosecond = 1
 
 -- a part at the front of a text: digits, optionally a fraction, and a unit
-abbrev unit_at : List ℕ → List ℕ
+abbrev pub unit_at : List ℕ → List ℕ
 unit_at text = take_while is_ascii_lowercase (behind_fraction (behind_digits text))
 
-abbrev behind_part : List ℕ → List ℕ
+abbrev pub behind_part : List ℕ → List ℕ
 behind_part text = drop (length (unit_at text)) (behind_fraction (behind_digits text))
 
 -- a part has 1 to 18 digits before its fraction
-abbrev is_part : List ℕ → Bool
+abbrev pub is_part : List ℕ → Bool
 is_part text =
     nat_le 1 (length (digits_at text)) && nat_le (length (digits_at text)) 18 && has_fraction (behind_digits text)
 
-abbrev part_nanos : ℕ → List ℕ → ℕ
-part_nanos unit text = digits_value 10 (digits_at text) * unit + fraction_nanos unit (fraction_at (behind_digits text))
+abbrev pub part_nanos : ℕ → List ℕ → ℕ
+part_nanos nanos text = digits_value 10 (digits_at text) * nanos + fraction_nanos nanos (fraction_at (behind_digits text))
 
 -- the nanoseconds of the parts of a text, each of one of the units, in their order
-abbrev parts_nanos : List (List ℕ × ℕ) → List ℕ → Option ℕ
+abbrev pub parts_nanos : List TimeUnit → List ℕ → Option ℕ
 parts_nanos [] text = if is_empty text then Some 0 else None
 parts_nanos (unit ∷ others) text =
-    if bytes_eq (unit_at text) unit.0 then
-    (if is_part text then option_map (λ n. part_nanos unit.1 text + n) (parts_nanos others (behind_part text)) else None)
+    if bytes_eq (unit_at text) (unit_name unit) then
+    (if is_part text then option_map (λ n. part_nanos (unit_nanos unit) text + n) (parts_nanos others (behind_part text)) else None)
     else parts_nanos others text
 
 -- `0` alone, or one or more parts
-abbrev magnitude_of : List ℕ → Option ℕ
+abbrev pub magnitude_of : List ℕ → Option ℕ
 magnitude_of text =
     if bytes_eq text (codes "0") then Some 0 else (if is_empty text then None else parts_nanos units text)
 

@@ -1,5 +1,5 @@
 // The literals that some forms take as arguments.
-ghost use Rattle.std.specs.Prelude.{◌≡◌, ◌==◌, position};
+ghost use Rattle.std.specs.Prelude.{◌≡◌, ◌<◌, ◌==◌, position, IfSome};
 ghost use Rattle.cel_tree.specs.declared.tree.Expr.{out-Expr};
 ghost use Rattle.cel_types.specs.Arguments.{arguments_of, is_literal, are_literals, text_of, has_literals, has_template, has_zone};
 ghost use Rattle.cel_types.specs.Template.{is_single, is_apart, has_single_braces, has_name, is_template};
@@ -118,8 +118,10 @@ pub fn is_template(text: &str) -> bool
     has_single_braces(text.as_bytes()) && has_name(text.as_bytes())
 }
 
-fn two_digits(tens: u8, ones: u8) -> Option<u8>
-    ensures { result ≡ two_digits tens ones }
+/// The number below 100 that two digits write.
+pub fn two_digits(tens: u8, ones: u8) -> Option<u8>
+    ensures value { result ≡ two_digits tens ones }
+    ensures bound { IfSome result (λ number. number < 100) }
 {
     if !tens.is_ascii_digit() {
         return None;

@@ -1,15 +1,14 @@
 ghost use Rattle.std.specs.Prelude.{◌≡◌, ◌↔◌, IsOk, IfOk, IfErr, MatchResult};
 ghost use Rattle.cel_tree.specs.declared.tree.Expr.{out-Expr};
-ghost use Rattle.cel_types.specs.HasKind.{HasKind, FirstFault, FirstFaultAmong, IsFaultOf, children};
-ghost use Rattle.cel_types.specs.KindOf.{checked};
-ghost use Rattle.cel_types.specs.Nodes.{node_kind, HaveKindsFrom, AreKinds};
-ghost use Rattle.cel_types.specs.Table.{truth};
+ghost use Rattle.cel_types.specs.HasKind.{HasKind, FirstFault, FirstFaultAmong, IsFaultOf};
+ghost use Rattle.cel_types.specs.KindOf.{at_node, checked};
+ghost use Rattle.cel_types.specs.Kinds.{truth};
+ghost use Rattle.cel_types.specs.Nodes.{node_kind, differing, Keeps};
 
 use crate::arguments::{arguments_of, has_literals, has_template, has_zone};
 use crate::form::{attribute_of, form_of, is_whole};
-use crate::kind::Kinds;
 use crate::place::stands_in;
-use crate::table::{TRUTH, is_kind, kind_from};
+use crate::rows::{TRUTH, is_kind, kind_from};
 use crate::{Kind, Place};
 use cel_tree::Expr;
 use std::marker::Model;
@@ -50,7 +49,7 @@ pub struct Typed {
 impl Model for Typed {
     ghost use Rattle.cel_types.specs.Condition.{Condition};
     ghost use Rattle.cel_types.specs.HasKind.{HasKind};
-    ghost use Rattle.cel_types.specs.Table.{truth};
+    ghost use Rattle.cel_types.specs.Kinds.{truth};
     ghost use Rattle.cel_tree.specs.contracts.tree.Expr as trees;
     ghost use Rattle.std.specs.Coded.{codes};
 
@@ -101,8 +100,8 @@ pub fn check(expr: Expr, place: Place) -> Result<Typed, TypeFault>
 }
 
 // The kind of a node whose parts have these kinds, or what is wrong with it.
-fn node_kind(expr: &Expr, place: Place, kinds: Kinds) -> Result<Kind, TypeKind>
-    ensures { result ≡ node_kind place (out-Expr expr.now) kinds }
+fn node_kind(expr: &Expr, place: Place, kinds: &[Kind]) -> Result<Kind, TypeKind>
+    ensures { result ≡ node_kind place (out-Expr expr.now) kinds.now }
 {
     let Some(form) = form_of(expr) else {
         return Err(TypeKind::UnknownName);
@@ -126,11 +125,10 @@ fn node_kind(expr: &Expr, place: Place, kinds: Kinds) -> Result<Kind, TypeKind>
     }
 }
 
-#[cycle(kinds)]
-fn kind_of(expr: &Expr, place: Place) -> Result<Kind, TypeFault>
-    ensures { MatchResult result (HasKind place expr.now) (FirstFault place expr.now) }
+// The same, with the fault at the first byte of the node.
+fn node(expr: &Expr, place: Place, kinds: &[Kind]) -> Result<Kind, TypeFault>
+    ensures { result ≡ at_node expr.now (node_kind place (out-Expr expr.now) kinds.now) }
 {
-    let kinds = kinds_below(expr, place)?;
     match node_kind(expr, place, kinds) {
         Ok(kind) => Ok(kind),
         Err(kind) => Err(TypeFault {
@@ -140,65 +138,73 @@ fn kind_of(expr: &Expr, place: Place) -> Result<Kind, TypeFault>
     }
 }
 
-// The kinds of the parts of a node.
 #[cycle(kinds)]
-fn kinds_below(expr: &Expr, place: Place) -> Result<Kinds, TypeFault>
-    ensures { MatchResult result (AreKinds place (children expr.now)) (FirstFaultAmong place (children expr.now)) }
+fn kind_of(expr: &Expr, place: Place) -> Result<Kind, TypeFault>
+    ensures { MatchResult result (HasKind place expr.now) (FirstFault place expr.now) }
 {
     match expr {
-        Expr::Bool(..) => Ok(Kinds::None),
-        Expr::Int(..) => Ok(Kinds::None),
-        Expr::Str(..) => Ok(Kinds::None),
-        Expr::Name(..) => Ok(Kinds::None),
-        Expr::Select(_, base, field) => {
-            let base = base.get();
-            if attribute_of(base, field.as_str()).is_some() {
-                return Ok(Kinds::None);
-            }
-            let kind = kind_of(base, place)?;
-            Ok(Kinds::One(kind))
-        }
-        Expr::Call(_, _, arguments) => kinds_from(Kinds::None, arguments.as_slice(), place),
+        Expr::Bool(..) | Expr::Int(..) | Expr::Str(..) | Expr::Name(..) => node(expr, place, &[]),
+        Expr::Select(_, base, field) => match attribute_of(base.get(), field.as_str()) {
+            Some(_) => node(expr, place, &[]),
+            None => node(expr, place, &[kind_of(base.get(), place)?]),
+        },
+        Expr::Call(_, _, arguments) => match kinds_among(arguments.as_slice(), place)? {
+            None => node(expr, place, &[]),
+            Some((argument, _)) => node(expr, place, &[argument]),
+        },
         Expr::Method(_, base, name, arguments) => {
             let base = base.get();
             if is_whole(base, name.as_str()) {
-                return Ok(Kinds::None);
+                return node(expr, place, &[]);
             }
             let kind = kind_of(base, place)?;
-            kinds_from(Kinds::One(kind), arguments.as_slice(), place)
+            match kinds_among(arguments.as_slice(), place)? {
+                None => node(expr, place, &[kind]),
+                Some((argument, _)) => node(expr, place, &[kind, argument]),
+            }
         }
-        Expr::Many(_, items) => kinds_from(Kinds::None, items.as_slice(), place),
-        Expr::Not(_, operand) => {
+        Expr::Many(_, items) => match kinds_among(items.as_slice(), place)? {
+            None => node(expr, place, &[]),
+            Some((first, other)) => node(expr, place, &[first, other]),
+        },
+        Expr::Not(_, operand) | Expr::Neg(_, operand) => {
             let kind = kind_of(operand.get(), place)?;
-            Ok(Kinds::One(kind))
-        }
-        Expr::Neg(_, operand) => {
-            let kind = kind_of(operand.get(), place)?;
-            Ok(Kinds::One(kind))
+            node(expr, place, &[kind])
         }
         Expr::Two(_, _, left, right) => {
             let left = kind_of(left.get(), place)?;
             let right = kind_of(right.get(), place)?;
-            Ok(Kinds::Two(left, right))
+            node(expr, place, &[left, right])
         }
         Expr::Pick(_, condition, picked, other) => {
             let condition = kind_of(condition.get(), place)?;
             let picked = kind_of(picked.get(), place)?;
             let other = kind_of(other.get(), place)?;
-            Ok(Kinds::Three(condition, picked, other))
+            node(expr, place, &[condition, picked, other])
         }
     }
 }
 
-// Some kinds, and behind them those of a list of nodes.
-#[cycle(kinds)]
-fn kinds_from(kinds: Kinds, exprs: &[Expr], place: Place) -> Result<Kinds, TypeFault>
-    ensures { MatchResult result (HaveKindsFrom kinds place exprs.now) (FirstFaultAmong place exprs.now) }
+fn differing(first: Kind, so_far: Kind, kind: Kind) -> Kind
+    ensures { result ≡ differing first so_far kind }
 {
-    let mut kinds = kinds;
-    for expr in exprs {
+    if is_kind(first, kind) { so_far } else { kind }
+}
+
+// The kind of the first node of a list, and of one that differs from it, where there is one. A list asks for no more, and a call
+// for less, since no form has two arguments.
+#[cycle(kinds)]
+fn kinds_among(exprs: &[Expr], place: Place) -> Result<Option<(Kind, Kind)>, TypeFault>
+    ensures { MatchResult result (Keeps place exprs.now) (FirstFaultAmong place exprs.now) }
+{
+    let [first, rest @ ..] = exprs else {
+        return Ok(None);
+    };
+    let first = kind_of(first, place)?;
+    let mut other = first;
+    for expr in rest {
         let kind = kind_of(expr, place)?;
-        kinds = kinds.with(kind);
+        other = differing(first, other, kind);
     }
-    Ok(kinds)
+    Ok(Some((first, other)))
 }

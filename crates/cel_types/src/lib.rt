@@ -12,9 +12,13 @@ mod form;
 mod kind;
 mod laws;
 mod place;
-mod table;
+mod rows;
+mod unit;
 
-pub use arguments::{arguments_of, text_of, zone_minutes};
+pub use arguments::{arguments_of, offset_minutes, text_of, two_digits, zone_minutes};
+pub use cel_value::{
+    Context, EvalFault, Facts, KeyAnswer, KeyFact, Outcome, Value, ValueFact, Verdict,
+};
 pub use checking::{TypeFault, TypeKind, Typed, check};
 pub use form::{Attribute, Form, TagFunction, TimePart, attribute_of, form_of, is_whole};
 pub use kind::{Base, Kind, Place};
@@ -22,3 +26,4 @@ pub use laws::{
     at_most_one_fault, at_most_one_kind, at_most_one_outcome, conditions_come_to_truths,
     conditions_have_no_fault, faults_have_no_kind, kinds_are_computed, outcomes_are_of_the_kind,
 };
+pub use unit::TimeUnit;

@@ -14,7 +14,7 @@ key_named name keys = find (λ key. bytes_eq key.name name) keys
 abbrev pub key_numbered : ℕ → List KeyFact → Option KeyFact
 key_numbered number keys = find (λ key. key.number == number) keys
 
-abbrev IsValue : Option ValueFact → KeyAnswer → Type 0
+abbrev pub IsValue : Option ValueFact → KeyAnswer → Type 0
 IsValue None Unbound = Unit {0}
 IsValue (Some value) (Bound number short) = (number ≡ value.number) × (short.now ≡ value.short)
 IsValue _ _ = ⊥

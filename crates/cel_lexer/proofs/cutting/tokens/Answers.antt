@@ -4,6 +4,7 @@ use Rattle.std.proofs.lemmas.List.Elements.{All-push}
 use Rattle.std.proofs.lemmas.Grind.{common_steps}
 use Rattle.cel_tree.specs.Spelling.{IsProper}
 use Rattle.cel_lexeme.specs.declared.lexeme.Lexeme.TheVariants as lexeme
+use Rattle.cel_lexeme.proofs.Proper.{rest_is, proper}
 use Rattle.cel_lexer.proofs.Passed.{past_utf8}
 use Rattle.cel_lexer.proofs.Turn.{past_at, past_none, finish, stop_is, turn}
 use Rattle.cel_lexer.proofs.cutting.tokens.Goals as goal
@@ -32,9 +33,9 @@ cut-preserved c =
     let u = past_utf8 p c.cut.invariant.utf8 in
     let bytes = c.as_bytes-bytes.ensures.len in
     record {
-      so_far = rw (c.in_ok-push.ensures.ok, take_rest front len, bytes, c.after-seen.ensures)
+      so_far = rw (c.in_ok-push.ensures, take_rest front len, bytes, c.after-seen.ensures)
           (turn text c.cut.found c.cut.seen c.cut.rest.now front c.in_ok-kind.kind len c.cut.invariant.so_far p h.0 h.1);
       within = rw (take_rest front len) (omega (arith, length-drop len front, c.past-here.ensures.within, c.cut.invariant.within));
-      utf8 = rw (take_rest front len) (c.longest.ensures.rest front (lexeme.Token c.in_ok-kind.kind) len u h.0);
-      proper = rw c.in_ok-push.ensures.ok (All-push (λ token. IsProper token.kind) c.cut.found _ c.cut.invariant.proper (c.longest.ensures.proper front c.in_ok-kind.kind len u h.0));
+      utf8 = rw (take_rest front len) (rest_is front (lexeme.Token c.in_ok-kind.kind) len u h.0);
+      proper = rw c.in_ok-push.ensures (All-push (λ token. IsProper token.kind) c.cut.found _ c.cut.invariant.proper (proper front c.in_ok-kind.kind len u h.0));
     }

@@ -2,4 +2,4 @@ use Rattle.cel_shown.proofs.Cutting.{printed}
 use Rattle.cel_shown.proofs.laws.separate_is_cut.Goals as goal
 
 pub returns : goal.returns
-returns c = λ ps s. printed (λ z t e. (c.longest.ensures.found z t).0 e) ps s
+returns c = λ ps s. printed ps s

@@ -1,8 +1,6 @@
-use Rattle.std.proofs.Common.{List, Result, sym, ap, ◌∙◌, subst, arith}
+use Rattle.std.proofs.Common.{Result, sym, ap, ◌∙◌, subst, arith}
 use Rattle.std.proofs.lemmas.Result.{err_from_is_err_and}
 use Rattle.cel_tree.specs.declared.tree.Expr.{Expr}
-use Rattle.cel_tree.specs.declared.token.Token.{Token}
-use Rattle.cel_grammar.specs.Grammar.{IsExpr}
 use Rattle.cel_grammar.specs.Depth.{deepest}
 use Rattle.cel_syntax.specs.declared.fault.ReadStop.{ReadStop}
 use Rattle.cel_syntax.specs.CelText as spec
@@ -23,13 +21,12 @@ returns-in_err-tree c =
     let p = err_from_is_err_and c.from_residual-in_err-tree.result c.from_residual-in_err-tree.ensures.1 in
     subst (λ (r : Result Expr ReadStop). spec.Answers c.args.text.now r) (sym p.1)
     (grammar_faults c.args.text.now _ _ p.0 p.2 (omega arith) c.in_ok-tokens.ensures.cut (omega arith) (omega (arith, e))
-    (λ a d. c.in_err-tree.ensures.complete a (subst (λ (ts : List Token). IsExpr ts a) (sym c.as_slice-2.ensures) d)))
+    c.in_err-tree.ensures.complete)
 
 pub returns : goal.returns
 returns c =
     let e = c.depth.ensures ∙ ap (deepest 0) c.as_slice.ensures in
-    let f = subst (λ (ts : List Token). IsExpr ts c.in_ok-tree.tree) c.as_slice-2.ensures c.in_ok-tree.ensures.sound in
-    record { tokens = _; short = omega arith; cut = c.in_ok-tokens.ensures.cut; few = omega arith; shallow = omega (arith, e); derived = f }
+    record { tokens = _; short = omega arith; cut = c.in_ok-tokens.ensures.cut; few = omega arith; shallow = omega (arith, e); derived = c.in_ok-tree.ensures.sound }
 
 pub returns-then-len-gt-MAX_TOKENS : goal.returns-then-len-gt-MAX_TOKENS
 returns-then-len-gt-MAX_TOKENS c =

@@ -7,8 +7,7 @@ use Rattle.cel_types.specs.declared.kind.Place.{Place}
 use Rattle.cel_types.specs.HasKind as rule
 use Rattle.cel_types.specs.HasKind.{FirstFault, HasKind}
 use Rattle.cel_types.specs.KindOf.{checked, condition_or_fault, fault_at}
-use Rattle.cel_types.specs.Kinds.{is_kind}
-use Rattle.cel_types.specs.Table.{truth}
+use Rattle.cel_types.specs.Kinds.{is_kind, truth}
 use Rattle.cel_types.proofs.KindOf.{fault_iff, kind_iff}
 use Rattle.cel_types.proofs.OneKind.{one_kind, no_kind}
 use Rattle.cel_types.proofs.checking.check.Goals as goal

@@ -3,7 +3,7 @@ use Rattle.cel_value.specs.declared.value.Outcome.TheVariants.{Given, Stopped}
 use Rattle.cel_types.specs.Laws.{IsTruthOrFault}
 use Rattle.cel_types.specs.OfKind as of
 use Rattle.cel_types.specs.OfKind.{OutcomeIsOf}
-use Rattle.cel_types.specs.Table.{truth}
+use Rattle.cel_types.specs.Kinds.{truth}
 use Rattle.cel_types.proofs.OfKind.{kept, truth_value}
 use Rattle.cel_types.proofs.laws.conditions_come_to_truths.Goals as goal
 

@@ -1,0 +1,24 @@
+use Rattle.std.proofs.Common.{string_bytes, refl, ap, ◌∙◌, subst}
+use Rattle.cel_meaning.specs.Results.{at}
+use Rattle.cel_types.specs.Means.{Means}
+use Rattle.cel_answers.specs.declared.task.Task.TheVariants.{Value}
+use Rattle.cel_answers.specs.Answers as answers
+use Rattle.cel_answers.specs.Answers.{Answer, fault_line}
+use Rattle.cel_answers.specs.Names.{type_name_of}
+use Rattle.cel_answers.proofs.Lines.{said, value_said}
+use Rattle.cel_answers.proofs.answer.value_line.Goals as goal
+
+pub returns-in_ok-from_str-in-Ok : goal.returns-in_ok-from_str-in-Ok
+returns-in_ok-from_str-in-Ok c = λ text h.
+    let facts = c.args.facts.now in
+    let outcome = c.in_ok-outcome-in-Ok.outcome in
+    let means : Means (at facts) c.args.tree outcome =
+    subst (λ e. Means (at facts) e outcome) c.in-Ok.ensures.typed.0 c.in_ok-outcome-in-Ok.ensures.meaning in
+    value_said facts text (string_bytes c.in_ok-from_str-in-Ok.field-0) c.args.tree outcome c.outcome_name.result.now
+    c.in_ok-from_str-in-Ok.ensures.ok h (c.in-Ok.ensures.exact.0 refl) means c.in_ok-outcome-in-Ok.ensures.truth c.outcome_name.ensures
+
+pub returns-in-Err : goal.returns-in-Err
+returns-in-Err c = λ text h.
+    let fault = c.in-Err.fault in
+    said c.fault_line.result string_bytes _ (fault_line (type_name_of fault.kind) fault.offset) (Answer c.args.facts.now Value text)
+    c.fault_line.ensures (ap (λ name. fault_line name fault.offset) c.type_name.ensures) (answers.type_fault refl h c.in-Err.ensures.fault)

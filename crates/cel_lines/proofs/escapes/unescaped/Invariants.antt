@@ -1,9 +1,0 @@
-use Rattle.std.proofs.Common.{length}
-use Rattle.cel_lines.proofs.Lines.{IsSoFar}
-use Rattle.cel_lines.proofs.escapes.unescaped.Given as goal
-
-abbrev pub invariant-line : goal.invariant-line
-invariant-line l = IsSoFar l.initial.left l.found.items l.left
-
-abbrev pub decreases-line : goal.decreases-line
-decreases-line l = length l.left

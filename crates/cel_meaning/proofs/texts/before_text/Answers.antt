@@ -1,0 +1,9 @@
+use Rattle.std.proofs.Common.{sym}
+use Rattle.cel_meaning.proofs.Extracting.{nowhere, splits}
+use Rattle.cel_meaning.proofs.texts.before_text.Goals as goal
+
+pub returns-in-Some : goal.returns-in-Some
+returns-in-Some c = sym (splits c.args.part.now c.args.text.now _ _ c.in-Some.ensures.cases).1
+
+pub returns-in-None : goal.returns-in-None
+returns-in-None c = sym (nowhere c.args.part.now c.args.text.now c.in-None.ensures.cases).before
