@@ -2,3 +2,12 @@ pub mod Named
 pub mod Digits
 pub mod Plains
 pub mod Lists
+pub mod Tested
+pub mod Heads
+pub mod Fronts
+pub mod Room
+pub mod Targets
+pub mod Looks
+pub mod Steps
+pub mod Streams
+pub mod Held

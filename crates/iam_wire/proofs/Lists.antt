@@ -1,9 +1,10 @@
--- The messages of an input are one list with one end, and it can be taken a message at a time.
-use Rattle.std.proofs.Common.{◌≡◌, ℕ, List, [], ◌∷◌, ◌++◌, refl, sym, ap, ◌∙◌, subst}
+-- The messages of an input are one list with one end, no input is without one, and it can be taken a message at a time.
+use Rattle.std.proofs.Common.{◌≡◌, ℕ, zero, suc, ◌+◌, ◌<◌, List, [], ◌∷◌, ◌++◌, length, refl, sym, ap, ◌∙◌, subst, arith, length-append}
+use Rattle.httparse.specs.Grammar.{print_request}
 use Rattle.iam_wire.specs.Plain.{IsPlain, HasNoPlain}
-use Rattle.iam_wire.specs.Messages.{End, at_end, at_fault, EndsAs, Messages, BeginsWith}
+use Rattle.iam_wire.specs.Messages.{End, at_end, at_fault, EndsAs, Messages, BeginsWith, NoneWithoutList}
 use Rattle.iam_wire.specs.declared.message.Message.{Message}
-use Rattle.iam_wire.proofs.Plains.{one_plain, no_plain_in_nothing}
+use Rattle.iam_wire.proofs.Plains.{one_plain, no_plain_in_nothing, some_head}
 
 one_end : (bytes : List ℕ) (end last : End) → EndsAs bytes end → EndsAs bytes last → end ≡ last
 one_end bytes at_end at_end x y = refl
@@ -25,6 +26,27 @@ one_list bytes (m ∷ messages) (n ∷ others) end last x y =
     let same = one_plain bytes x.1.0 y.1.0 m n x.0 y.0 x.1.1 y.1.1 in
     let more = one_list y.0 messages others end last (subst (λ s. Messages s messages end) same.2 x.2) y.2 in
     (ap (λ z. z ∷ messages) same.1 ∙ ap (λ zs. n ∷ zs) more.0, more.1)
+
+-- what is left behind a message is shorter than the whole
+shorter : (bytes : List ℕ) (message : Message) (rest : List ℕ) → IsPlain bytes message rest → length rest < length bytes
+shorter bytes message rest x =
+    omega (arith, ap length x.1.reads.1, length-append (print_request x.0) (message.body ++ rest), length-append message.body rest, some_head x.0)
+
+not_nothing : (b : ℕ) (bytes : List ℕ) → b ∷ bytes ≡ [] → ⊥
+not_nothing b bytes is = cc
+
+-- no bytes of fewer than so many are without a list: where no list is, a message at the front would have a rest with one, so there is none
+listed : (most : ℕ) (bytes : List ℕ) → length bytes < most → ((messages : List Message) (end : End) → ¬ (Messages bytes messages end)) → ⊥
+listed zero bytes short none = omega arith
+listed (suc most) [] short none = none [] at_end refl
+listed (suc most) (b ∷ bytes) short none =
+    none [] at_fault (
+      not_nothing b bytes,
+      λ message rest x. listed most rest (omega (arith, shorter (b ∷ bytes) message rest x, short)) (λ messages end are. none (message ∷ messages) end (rest, x, are)),
+    )
+
+pub none_without_list : NoneWithoutList
+none_without_list bytes = listed (length bytes + 1) bytes (omega arith)
 
 -- one message more behind those that were taken
 pub begins_more : (bytes : List ℕ) (messages : List Message) (rest : List ℕ) (message : Message) (more : List ℕ)

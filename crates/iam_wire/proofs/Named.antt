@@ -18,7 +18,7 @@ none_span = record { name = record { start = 0; end = 0 }; value = record { star
 abbrev pub left : List ℕ → List ℕ → List HeaderSpan → ℕ → List (List ℕ)
 left name buf headers i = values_named name (map (header_bytes buf) (drop i headers))
 
-same_name : (r : Bool) (a b : List ℕ) → (IsTrue r ↔ (map to_ascii_lowercase a ≡ map to_ascii_lowercase b)) → r ≡ str_eq_ignore_ascii_case a b
+pub same_name : (r : Bool) (a b : List ℕ) → (IsTrue r ↔ (map to_ascii_lowercase a ≡ map to_ascii_lowercase b)) → r ≡ str_eq_ignore_ascii_case a b
 same_name r a b test = same_from_decides r _ test (bytes_eq-Decides _ _)
 
 front : (name buf : List ℕ) (headers : List HeaderSpan) (i : ℕ) (d : HeaderSpan) → i < length headers

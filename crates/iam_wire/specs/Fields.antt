@@ -19,10 +19,7 @@ values_named name fields = map (λ f. f.1) (filter (λ f. str_eq_ignore_ascii_ca
 abbrev pub appears : ℕ → List ℕ → List (List ℕ × List ℕ) → Bool
 appears times name fields = length (values_named name fields) == times
 
--- 1 digit, or more up to a number of them
-abbrev pub is_digits : ℕ → List ℕ → Bool
-is_digits most text = nat_lt 0 (length text) && nat_le (length text) most && list_all is_ascii_digit text
-
--- the number that such a text gives
+-- the number that 1 digit gives, or more up to a number of them
 abbrev pub number_of : ℕ → List ℕ → Option ℕ
-number_of most text = if is_digits most text then Some (digits_value 10 text) else None
+number_of most text =
+    if nat_lt 0 (length text) && nat_le (length text) most && list_all is_ascii_digit text then Some (digits_value 10 text) else None

@@ -3,3 +3,7 @@ pub mod Plain
 pub mod Found
 pub mod Messages
 pub mod Reply
+pub mod Front
+pub mod Target
+pub mod Look
+pub mod Stream

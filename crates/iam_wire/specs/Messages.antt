@@ -36,6 +36,11 @@ AtMostOneList =
     (bytes : List ℕ) (messages others : List Message) (end last : End)
     → Messages bytes messages end → Messages bytes others last → (messages ≡ others) × (end ≡ last)
 
+-- No bytes are without a list of messages. Which it is no function of the definitions tells, since a head is a relation between bytes and their
+-- parts: so this is the classical reading of "there is a list", and its uniqueness stands above.
+abbrev pub NoneWithoutList : Type 0
+NoneWithoutList = (bytes : List ℕ) → ¬ ((messages : List Message) (end : End) → ¬ (Messages bytes messages end))
+
 -- a message behind those that were taken can be taken too
 abbrev pub TakesOneMore : Type 0
 TakesOneMore =

@@ -156,7 +156,7 @@ fn caller_of(alloc: Global, field: Named) -> Result<Option<Field>, OutOfMemory>
     }
 }
 
-fn text_of(alloc: Global, bytes: &[u8]) -> Result<Text, OutOfMemory>
+pub(crate) fn text_of(alloc: Global, bytes: &[u8]) -> Result<Text, OutOfMemory>
     requires { IsUtf8 bytes.now }
     ensures { IfOk result (λ text. text ≡ bytes.now) }
 {
