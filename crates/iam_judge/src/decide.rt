@@ -4,8 +4,9 @@ ghost use Rattle.std.specs.List.{find, list_any};
 ghost use Rattle.std.specs.Option.{option_map};
 ghost use Rattle.std.specs.Ordering.{is_lt, nat_cmp};
 ghost use Rattle.std.specs.Cmp.Lexicographic.{slice_cmp};
-ghost use Rattle.iam_model.specs.Holds.{holds as member_holds};
-ghost use Rattle.iam_law.specs.Decide.{binding_grants as gives, decide as decision_of, in_turn};
+ghost use Rattle.iam_model.specs.Holds as holds_spec;
+ghost use Rattle.iam_law.specs.Decide as decide_spec;
+ghost use Rattle.iam_law.specs.Decide.{in_turn};
 ghost use Rattle.iam_law.specs.Shown.{lets_grant, shown};
 ghost use Rattle.iam_judge.specs.Leading.{role_before};
 
@@ -19,7 +20,7 @@ use std::alloc::Global;
 use std::cmp::Ordering;
 
 fn any_holds(tables: &Tables, members: &[Member], caller: &Caller) -> bool
-    ensures { result ≡ list_any (λ member. member_holds tables.now member caller.now) members.now }
+    ensures { result ≡ list_any (λ member. holds_spec.holds tables.now member caller.now) members.now }
 {
     members.iter().any(|member| holds(tables, member, caller))
 }
@@ -32,7 +33,7 @@ fn condition_grants(_query: &Query, condition: &Option<Condition>) -> bool
 }
 
 fn binding_grants(tables: &Tables, catalogue: &Catalogue, query: &Query, binding: &Binding) -> bool
-    ensures { result ≡ gives tables.now query.now binding.now }
+    ensures { result ≡ decide_spec.binding_grants tables.now query.now binding.now }
 {
     grants(tables, catalogue, &binding.role, &query.permission)
         && any_holds(tables, binding.members.as_slice(), &query.caller)
@@ -71,7 +72,7 @@ fn leads(
     binding: &Binding,
     best: Option<(u32, &Binding)>,
 ) -> Result<bool, OutOfMemory>
-    ensures { IfOk result (λ leads. leads ≡ (gives tables.now query.now binding.now && role_before binding.now (option_map (λ found. (found.0, found.1.now)) best.entry))) }
+    ensures { IfOk result (λ leads. leads ≡ (decide_spec.binding_grants tables.now query.now binding.now && role_before binding.now (option_map (λ found. (found.0, found.1.now)) best.entry))) }
 {
     if binding_grants(tables, catalogue, query, binding) {
         comes_before(alloc, binding, best)
@@ -98,7 +99,7 @@ fn place_in(
     bindings: &[Binding],
 ) -> Result<Option<u32>, OutOfMemory>
     requires { length bindings.now < 2 ^ 32 }
-    ensures { IfOk result (λ place. place ≡ option_map (λ turn. turn.0) (find (λ turn. gives tables.now query.now turn.1) (in_turn bindings.now))) }
+    ensures { IfOk result (λ place. place ≡ option_map (λ turn. turn.0) (find (λ turn. decide_spec.binding_grants tables.now query.now turn.1) (in_turn bindings.now))) }
 {
     grants_are_first();
     firsts_are_one();
@@ -122,7 +123,7 @@ pub fn decide(
     query: &Query,
 ) -> Result<Decision, OutOfMemory>
     requires { All (λ policy. length policy.bindings < 2 ^ 32) tables.now.allows }
-    ensures { IfOk result (λ decision. decision ≡ decision_of tables.now query.now) }
+    ensures { IfOk result (λ decision. decision ≡ decide_spec.decide tables.now query.now) }
 {
     let node = query.node;
     match place_in(alloc, tables, catalogue, query, bindings_at(tables, node))? {

@@ -1,13 +1,13 @@
 // What a decision refuses.
 ghost use Rattle.std.specs.Prelude.{◌≡◌};
-ghost use Rattle.iam_law.specs.Asked.{unless_allowed as refused_by};
+ghost use Rattle.iam_law.specs.Asked as spec;
 
 use iam_names::PermissionName;
 use iam_tables::{Decision, Refusal};
 
 /// The refusal of a call that needs the permission, where the decision doesn't allow it.
 pub fn unless_allowed(permission: PermissionName, decision: Decision) -> Option<Refusal>
-    ensures { result ≡ refused_by permission decision }
+    ensures { result ≡ spec.unless_allowed permission decision }
 {
     match decision {
         Decision::Allowed { .. } => None,

@@ -2,15 +2,15 @@
 ghost use Rattle.std.specs.Prelude.{◌≡◌};
 ghost use Rattle.std.specs.List.{list_any};
 ghost use Rattle.std.specs.Str.{bytes_eq};
-ghost use Rattle.iam_model.specs.Holds.{holds as member_holds};
-ghost use Rattle.iam_model.specs.Same.{same_pool as is_same_pool};
+ghost use Rattle.iam_model.specs.Holds as holds_spec;
+ghost use Rattle.iam_model.specs.Same as same_spec;
 
 use iam_names::{Caller, Email, Member, Pool};
 use iam_tables::Tables;
 use iam_text::{List, Text};
 
 fn same_pool(a: &Pool, b: &Pool) -> bool
-    ensures { result ≡ is_same_pool a.now b.now }
+    ensures { result ≡ same_spec.same_pool a.now b.now }
 {
     *a == *b
 }
@@ -34,7 +34,7 @@ fn has_group(groups: &[Text], group: &Text) -> bool
 }
 
 fn holds_anonymous(tables: &Tables, member: &Member) -> bool
-    ensures { result ≡ member_holds tables.now member.now Caller.Anonymous }
+    ensures { result ≡ holds_spec.holds tables.now member.now Caller.Anonymous }
 {
     match member {
         Member::AllUsers => true,
@@ -51,7 +51,7 @@ fn holds_anonymous(tables: &Tables, member: &Member) -> bool
 }
 
 fn holds_user(tables: &Tables, member: &Member, user: &Email) -> bool
-    ensures { result ≡ member_holds tables.now member.now (Caller.User user.now) }
+    ensures { result ≡ holds_spec.holds tables.now member.now (Caller.User user.now) }
 {
     match member {
         Member::AllUsers | Member::AllAuthenticated => true,
@@ -67,7 +67,7 @@ fn holds_user(tables: &Tables, member: &Member, user: &Email) -> bool
 }
 
 fn holds_service(tables: &Tables, member: &Member, service: &Email) -> bool
-    ensures { result ≡ member_holds tables.now member.now (Caller.Service service.now) }
+    ensures { result ≡ holds_spec.holds tables.now member.now (Caller.Service service.now) }
 {
     match member {
         Member::AllUsers | Member::AllAuthenticated => true,
@@ -89,7 +89,7 @@ fn holds_pooled(
     subject: &Text,
     groups: &List<Text>,
 ) -> bool
-    ensures { result ≡ member_holds tables.now member.now (Caller.Pooled pool.now subject.now groups.now) }
+    ensures { result ≡ holds_spec.holds tables.now member.now (Caller.Pooled pool.now subject.now groups.now) }
 {
     match member {
         Member::AllUsers => true,
@@ -111,7 +111,7 @@ fn holds_pooled(
 
 /// Whether a member holds a caller.
 pub fn holds(tables: &Tables, member: &Member, caller: &Caller) -> bool
-    ensures { result ≡ member_holds tables.now member.now caller.now }
+    ensures { result ≡ holds_spec.holds tables.now member.now caller.now }
 {
     match caller {
         Caller::Anonymous => holds_anonymous(tables, member),

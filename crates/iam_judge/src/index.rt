@@ -5,7 +5,7 @@ ghost use Rattle.iam_model.specs.Commands.{IsEntry, after};
 ghost use Rattle.iam_model.specs.Consistent.{Consistent};
 ghost use Rattle.iam_model.specs.Nodes.{exists};
 ghost use Rattle.iam_law.specs.Admit.{admission};
-ghost use Rattle.iam_law.specs.Decide.{decide as decision_of};
+ghost use Rattle.iam_law.specs.Decide as spec;
 ghost use Rattle.iam_law.specs.Good.{ConditionsStand, Good};
 
 use crate::decide::decide;
@@ -28,9 +28,9 @@ pub enum BuildStop {
 
 impl From<OutOfMemory> for BuildStop {
     ghost use Rattle.std.specs.Prelude.{◌≡◌};
-    ghost use Rattle.iam_judge.specs.declared.index.BuildStop.TheVariants.{OutOfMemory as NoMemory};
+    ghost use Rattle.iam_judge.specs.declared.index.BuildStop.TheVariants as variant;
 
-    ghost from_gives = { λ _ stop. stop ≡ NoMemory };
+    ghost from_gives = { λ _ stop. stop ≡ variant.OutOfMemory };
 
     fn from(_: OutOfMemory) -> BuildStop {
         BuildStop::OutOfMemory
@@ -96,7 +96,7 @@ impl Index {
     pub fn decision(&self, alloc: Global, query: &Query) -> Result<Decision, OutOfMemory>
         requires node { IsTrue (exists self.now query.now.node) }
         requires permission { IsTrue (is_permission query.now.permission) }
-        ensures { IfOk result (λ decision. decision ≡ decision_of self.now query.now) }
+        ensures { IfOk result (λ decision. decision ≡ spec.decide self.now query.now) }
     {
         policies_are_countable();
         decide(alloc, &self.tables, &self.catalogue, query)
@@ -111,7 +111,7 @@ impl Index {
     ) -> Result<Decision, OutOfMemory>
         requires node { IsTrue (exists self.now query.now.node) }
         requires permission { IsTrue (is_permission query.now.permission) }
-        ensures decision { IfOk result (λ decision. decision ≡ decision_of self.now query.now) }
+        ensures decision { IfOk result (λ decision. decision ≡ spec.decide self.now query.now) }
         ensures steps { _steps.new ≡ _steps.old }
     {
         self.decision(alloc, query)

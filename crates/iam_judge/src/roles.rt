@@ -1,13 +1,13 @@
 // What roles grant.
 ghost use Rattle.std.specs.Prelude.{◌≡◌};
 ghost use Rattle.iam_model.specs.Presets.{presets};
-ghost use Rattle.iam_model.specs.Roles.{custom_grants as custom_roles_grant, grants as role_grants, is_disabled as stage_is_disabled, lists as role_lists, preset_grants as presets_grant};
+ghost use Rattle.iam_model.specs.Roles as spec;
 
 use iam_names::{PermissionName, RoleName};
 use iam_tables::{Catalogue, Preset, Role, Stage, Tables, same_role};
 
 fn lists(permissions: &[PermissionName], permission: &PermissionName) -> bool
-    ensures { result ≡ role_lists permissions.now permission.now }
+    ensures { result ≡ spec.lists permissions.now permission.now }
 {
     permissions
         .iter()
@@ -15,7 +15,7 @@ fn lists(permissions: &[PermissionName], permission: &PermissionName) -> bool
 }
 
 fn is_disabled(stage: Stage) -> bool
-    ensures { result ≡ stage_is_disabled stage }
+    ensures { result ≡ spec.is_disabled stage }
 {
     match stage {
         Stage::Disabled => true,
@@ -24,14 +24,14 @@ fn is_disabled(stage: Stage) -> bool
 }
 
 fn preset_grants(presets: &[Preset], role: &RoleName, permission: &PermissionName) -> bool
-    ensures { result ≡ presets_grant presets.now role.now permission.now }
+    ensures { result ≡ spec.preset_grants presets.now role.now permission.now }
 {
     presets.iter().any(|preset| same_role(&preset.role, role)
         && lists(preset.permissions.as_slice(), permission))
 }
 
 fn custom_grants(roles: &[Role], role: &RoleName, permission: &PermissionName) -> bool
-    ensures { result ≡ custom_roles_grant roles.now role.now permission.now }
+    ensures { result ≡ spec.custom_grants roles.now role.now permission.now }
 {
     roles.iter().any(|custom| same_role(&custom.name, role)
         && !is_disabled(custom.stage)
@@ -46,7 +46,7 @@ pub fn grants(
     role: &RoleName,
     permission: &PermissionName,
 ) -> bool
-    ensures { result ≡ role_grants tables.now role.now permission.now }
+    ensures { result ≡ spec.grants tables.now role.now permission.now }
 {
     preset_grants(catalogue.roles(), role, permission)
         || custom_grants(tables.roles.as_slice(), role, permission)

@@ -3,7 +3,7 @@ ghost use Rattle.iam_text.specs.Put.{placed, IsInOrder};
 ghost use Rattle.iam_names.specs.declared.node.NodeName.TheVariants.{Organization};
 ghost use Rattle.iam_types.specs.declared.command.Entry.{Entry};
 ghost use Rattle.iam_types.specs.declared.fact.Fact.{Fact};
-ghost use Rattle.iam_types.specs.declared.fact.Fact.TheVariants.{Allow, Org as OrgOf};
+ghost use Rattle.iam_types.specs.declared.fact.Fact.TheVariants as fact;
 ghost use Rattle.iam_types.specs.declared.fact.FactChange.TheVariants.{Put};
 ghost use Rattle.iam_types.specs.declared.node.Org.{Org};
 ghost use Rattle.iam_types.specs.declared.tables.Opening.{Opening};
@@ -79,7 +79,7 @@ pub fn nothing_else_is_given()
 
 /// Policies and the organisation are all facts yet.
 pub fn facts_are_few()
-    ensures { (tables : Tables) → Consistent tables → facts_of tables ≡ map (λ policy. Allow policy) tables.allows ++ OrgOf tables.org ∷ [] }
+    ensures { (tables : Tables) → Consistent tables → facts_of tables ≡ map (λ policy. fact.Allow policy) tables.allows ++ fact.Org tables.org ∷ [] }
 {}
 
 /// Tables are told by their facts.

@@ -6,9 +6,10 @@ ghost use Rattle.iam_names.specs.Number.{IsNodeNumber};
 ghost use Rattle.iam_names.specs.Reading.{IsRead};
 ghost use Rattle.iam_json_data.specs.Printed.{printed};
 ghost use Rattle.iam_model.specs.Formed.{IsFact, IsOrgFact, IsPolicyFact};
-ghost use Rattle.iam_model.specs.Policies.{has_members};
+ghost use Rattle.iam_model.specs.Policies as policy_spec;
 ghost use Rattle.iam_rows.specs.Rows.{org_name, org_data, policy_data, HasRow, IsRow};
-ghost use Rattle.iam_rows.specs.Finding.{Guesses, Finds, IsFactOf, ReadsRow, org_with, policy_with, organization_of};
+ghost use Rattle.iam_rows.specs.Finding as spec;
+ghost use Rattle.iam_rows.specs.Finding.{Guesses, Finds, IsFactOf, ReadsRow};
 
 use crate::body::{OrgBody, Owner, PolicyBody};
 use crate::row::row_of;
@@ -40,7 +41,7 @@ fn read_row<T: FromJson + Drop>(alloc: Global, text: &str) -> Result<T, RowStop>
 }
 
 fn number_of(name: Option<NodeName>) -> Option<u64>
-    ensures { result ≡ organization_of name }
+    ensures { result ≡ spec.organization_of name }
 {
     match name {
         Some(NodeName::Organization(number)) => Some(number),
@@ -63,7 +64,7 @@ fn has_forms(owner: &Owner) -> bool
 }
 
 fn org_with(number: u64, body: OrgBody) -> Org
-    ensures made { result ≡ org_with number body }
+    ensures made { result ≡ spec.org_with number body }
     ensures small { (result.next < 2 ^ 64) × (result.changes < 2 ^ 64) }
 {
     Org {
@@ -92,13 +93,13 @@ fn org_from(alloc: Global, number: u64, text: &str) -> Result<Org, RowStop>
 }
 
 fn has_members(binding: &Binding) -> bool
-    ensures { result ≡ has_members binding.now }
+    ensures { result ≡ policy_spec.has_members binding.now }
 {
     !binding.members.is_empty()
 }
 
 fn all_have_members(bindings: &[Binding]) -> bool
-    ensures { IsTrue result ↔ All (λ binding. has_members binding ≡ true) bindings.now }
+    ensures { IsTrue result ↔ All (λ binding. policy_spec.has_members binding ≡ true) bindings.now }
 {
     for binding in bindings {
         if !has_members(binding) {
@@ -109,7 +110,7 @@ fn all_have_members(bindings: &[Binding]) -> bool
 }
 
 fn policy_with(number: u64, body: PolicyBody) -> AllowPolicy
-    ensures made { result ≡ policy_with number body }
+    ensures made { result ≡ spec.policy_with number body }
     ensures small { result.set < 2 ^ 64 }
 {
     AllowPolicy {

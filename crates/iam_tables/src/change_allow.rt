@@ -1,9 +1,9 @@
 // The setting of an allow policy.
 ghost use Rattle.std.specs.Prelude.{◌≡◌, ◌+◌, ◌<◌, ◌^◌, IfOk, OnOk, OnErr, filter};
 ghost use Rattle.std.specs.Option.{option_map_or};
-ghost use Rattle.iam_model.specs.Allow.{policy_after as the_policy_after, set_policy as with_policy};
-ghost use Rattle.iam_model.specs.Nodes.{resolve as node_named};
-ghost use Rattle.iam_model.specs.Policies.{has_members as some_members};
+ghost use Rattle.iam_model.specs.Allow as allow_spec;
+ghost use Rattle.iam_model.specs.Nodes as node_spec;
+ghost use Rattle.iam_model.specs.Policies as policy_spec;
 
 use crate::reading::resolve;
 use iam_names::{NodeId, NodeName};
@@ -12,13 +12,13 @@ use iam_types::{AllowPolicy, Binding, Tables, copy_binding};
 use std::alloc::Global;
 
 fn has_members(binding: &Binding) -> bool
-    ensures { result ≡ some_members binding.now }
+    ensures { result ≡ policy_spec.has_members binding.now }
 {
     !binding.members.as_slice().is_empty()
 }
 
 fn with_members(alloc: Global, bindings: &[Binding]) -> Result<List<Binding>, OutOfMemory>
-    ensures { IfOk result (λ kept. kept ≡ filter some_members bindings.now) }
+    ensures { IfOk result (λ kept. kept ≡ filter policy_spec.has_members bindings.now) }
 {
     let mut kept = List::new(alloc);
     for binding in bindings {
@@ -37,7 +37,7 @@ pub fn policy_after(
     bindings: &List<Binding>,
 ) -> Result<AllowPolicy, OutOfMemory>
     requires { tables.now.org.changes + 1 < 2 ^ 64 }
-    ensures { IfOk result (λ policy. policy ≡ the_policy_after tables.now node bindings.now) }
+    ensures { IfOk result (λ policy. policy ≡ allow_spec.policy_after tables.now node bindings.now) }
 {
     Ok(AllowPolicy {
         node,
@@ -53,7 +53,7 @@ fn set_policy(
     bindings: &List<Binding>,
 ) -> Result<(), OutOfMemory>
     requires { tables.old.org.changes + 1 < 2 ^ 64 }
-    ensures ok { OnOk result (tables.new ≡ with_policy tables.old node bindings.now) }
+    ensures ok { OnOk result (tables.new ≡ allow_spec.set_policy tables.old node bindings.now) }
     ensures err { OnErr result (tables.new ≡ tables.old) }
 {
     let policy = policy_after(alloc, tables, node, bindings)?;
@@ -69,7 +69,7 @@ pub fn set_allow(
     bindings: &List<Binding>,
 ) -> Result<(), OutOfMemory>
     requires { tables.old.org.changes + 1 < 2 ^ 64 }
-    ensures ok { OnOk result (tables.new ≡ option_map_or (λ node. with_policy tables.old node bindings.now) (node_named tables.old name.now) tables.old) }
+    ensures ok { OnOk result (tables.new ≡ option_map_or (λ node. allow_spec.set_policy tables.old node bindings.now) (node_spec.resolve tables.old name.now) tables.old) }
     ensures err { OnErr result (tables.new ≡ tables.old) }
 {
     match resolve(tables, name) {

@@ -4,9 +4,9 @@ ghost use Rattle.std.specs.List.{All, list_all};
 ghost use Rattle.iam_model.specs.Broken.{IsFirstBrokenBy};
 ghost use Rattle.iam_types.specs.declared.refusal.LimitName.TheVariants.{PolicyGroups, PolicyMembers};
 ghost use Rattle.iam_model.specs.Consistent.{Keeps, NumbersFit, PoliciesStand, SetByChanges, WithinLimits};
-ghost use Rattle.iam_model.specs.Limits.{limit_of as the_limit};
-ghost use Rattle.iam_model.specs.Nodes.{exists as node_exists};
-ghost use Rattle.iam_model.specs.Policies.{count_groups as the_groups, count_members as the_count, is_role as role_is_known};
+ghost use Rattle.iam_model.specs.Limits as limit_spec;
+ghost use Rattle.iam_model.specs.Nodes as node_spec;
+ghost use Rattle.iam_model.specs.Policies as policy_spec;
 
 use crate::Catalogue;
 use crate::count::{count_all_members, count_members};
@@ -24,7 +24,7 @@ fn numbers_fit(tables: &Tables) -> bool
 }
 
 fn nodes_exist(tables: &Tables) -> bool
-    ensures { result ≡ list_all (λ policy. node_exists tables.now policy.node) tables.now.allows }
+    ensures { result ≡ list_all (λ policy. node_spec.exists tables.now policy.node) tables.now.allows }
 {
     tables
         .allows
@@ -34,7 +34,7 @@ fn nodes_exist(tables: &Tables) -> bool
 }
 
 fn are_known(tables: &Tables, catalogue: &Catalogue, bindings: &[Binding]) -> bool
-    ensures { result ≡ list_all (λ binding. role_is_known tables.now binding.role) bindings.now }
+    ensures { result ≡ list_all (λ binding. policy_spec.is_role tables.now binding.role) bindings.now }
 {
     bindings
         .iter()
@@ -42,7 +42,7 @@ fn are_known(tables: &Tables, catalogue: &Catalogue, bindings: &[Binding]) -> bo
 }
 
 fn roles_are_known(tables: &Tables, catalogue: &Catalogue) -> bool
-    ensures { result ≡ list_all (λ policy. list_all (λ binding. role_is_known tables.now binding.role) policy.bindings) tables.now.allows }
+    ensures { result ≡ list_all (λ policy. list_all (λ binding. policy_spec.is_role tables.now binding.role) policy.bindings) tables.now.allows }
 {
     tables.allows.as_slice().iter().all(|policy| are_known(
         tables,
@@ -58,7 +58,7 @@ fn policies_stand(tables: &Tables, catalogue: &Catalogue) -> bool
 }
 
 fn members_within(allows: &[AllowPolicy]) -> Result<bool, OutOfMemory>
-    ensures { IfOk result (λ within. IsTrue within ↔ All (λ policy. the_count policy.bindings ≤ the_limit PolicyMembers) allows.now) }
+    ensures { IfOk result (λ within. IsTrue within ↔ All (λ policy. policy_spec.count_members policy.bindings ≤ limit_spec.limit_of PolicyMembers) allows.now) }
 {
     for policy in allows {
         let count = count_members(policy.bindings.as_slice())?;
@@ -70,7 +70,7 @@ fn members_within(allows: &[AllowPolicy]) -> Result<bool, OutOfMemory>
 }
 
 fn groups_within(alloc: Global, allows: &[AllowPolicy]) -> Result<bool, OutOfMemory>
-    ensures { IfOk result (λ within. IsTrue within ↔ All (λ policy. the_groups policy.bindings ≤ the_limit PolicyGroups) allows.now) }
+    ensures { IfOk result (λ within. IsTrue within ↔ All (λ policy. policy_spec.count_groups policy.bindings ≤ limit_spec.limit_of PolicyGroups) allows.now) }
 {
     for policy in allows {
         let count = count_groups(alloc, policy.bindings.as_slice())?;

@@ -4,7 +4,7 @@ ghost use Rattle.iam_text.specs.Put.{put};
 ghost use Rattle.iam_model.specs.Allow.{set_policy};
 ghost use Rattle.iam_model.specs.Part.{order_in};
 ghost use Rattle.iam_model.specs.Parts.{allow_part};
-ghost use Rattle.iam_model.specs.Policies.{count_all_members as the_whole_count, count_members as the_count};
+ghost use Rattle.iam_model.specs.Policies as spec;
 
 use crate::change_allow::policy_after;
 use iam_names::NodeId;
@@ -24,7 +24,7 @@ fn add(count: u64, more: u64) -> Result<u64, OutOfMemory>
 
 /// Member appearances in a policy.
 pub fn count_members(bindings: &[Binding]) -> Result<u64, OutOfMemory>
-    ensures { IfOk result (λ count. count ≡ the_count bindings.now) }
+    ensures { IfOk result (λ count. count ≡ spec.count_members bindings.now) }
 {
     let mut count = 0u64;
     for binding in bindings {
@@ -35,7 +35,7 @@ pub fn count_members(bindings: &[Binding]) -> Result<u64, OutOfMemory>
 
 /// Member appearances in all policies.
 pub fn count_all_members(allows: &[AllowPolicy]) -> Result<u64, OutOfMemory>
-    ensures { IfOk result (λ count. count ≡ the_whole_count allows.now) }
+    ensures { IfOk result (λ count. count ≡ spec.count_all_members allows.now) }
 {
     let mut count = 0u64;
     for policy in allows {
@@ -47,7 +47,7 @@ pub fn count_all_members(allows: &[AllowPolicy]) -> Result<u64, OutOfMemory>
 
 // All member appearances in these policies and one more.
 fn count_more(rows: &[AllowPolicy], policy: &AllowPolicy) -> Result<u64, OutOfMemory>
-    ensures { IfOk result (λ count. count ≡ the_count policy.now.bindings + the_whole_count rows.now) }
+    ensures { IfOk result (λ count. count ≡ spec.count_members policy.now.bindings + spec.count_all_members rows.now) }
 {
     let new = count_members(policy.bindings.as_slice())?;
     let others = count_all_members(rows)?;
@@ -56,7 +56,7 @@ fn count_more(rows: &[AllowPolicy], policy: &AllowPolicy) -> Result<u64, OutOfMe
 
 // All member appearances, with this policy in its place.
 fn count_with(rows: &[AllowPolicy], policy: &AllowPolicy) -> Result<u64, OutOfMemory>
-    ensures { IfOk result (λ count. count ≡ the_whole_count (put (order_in allow_part) policy.now rows.now)) }
+    ensures { IfOk result (λ count. count ≡ spec.count_all_members (put (order_in allow_part) policy.now rows.now)) }
 {
     let mut count = 0u64;
     for (at, other) in rows.iter().enumerate() {
@@ -79,7 +79,7 @@ pub fn members_after(
     bindings: &List<Binding>,
 ) -> Result<u64, OutOfMemory>
     requires { tables.now.org.changes + 1 < 2 ^ 64 }
-    ensures { IfOk result (λ count. count ≡ the_whole_count (set_policy tables.now node bindings.now).allows) }
+    ensures { IfOk result (λ count. count ≡ spec.count_all_members (set_policy tables.now node bindings.now).allows) }
 {
     let policy = policy_after(alloc, tables, node, bindings)?;
     let count = count_with(tables.allows.as_slice(), &policy)?;

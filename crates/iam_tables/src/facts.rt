@@ -1,7 +1,7 @@
 // The facts of the tables.
 ghost use Rattle.std.specs.Prelude.{◌≡◌, IfOk};
 ghost use Rattle.iam_model.specs.Consistent.{Consistent};
-ghost use Rattle.iam_model.specs.Facts.{facts_of as the_facts};
+ghost use Rattle.iam_model.specs.Facts as spec;
 
 use iam_model::facts_are_few;
 use iam_text::{List, OutOfMemory};
@@ -11,7 +11,7 @@ use std::alloc::Global;
 /// The facts, one row each, in the order of rows.
 pub fn facts_of(alloc: Global, tables: &Tables) -> Result<List<Fact>, OutOfMemory>
     requires { Consistent tables.now }
-    ensures { IfOk result (λ facts. facts ≡ the_facts tables.now) }
+    ensures { IfOk result (λ facts. facts ≡ spec.facts_of tables.now) }
 {
     facts_are_few();
     let mut facts = List::new(alloc);

@@ -1,16 +1,17 @@
 // The tables of given facts.
-ghost use Rattle.std.specs.Prelude.{◌≡◌, ◌↔◌, ◌+◌, ℕ, [], ◌∷◌, List as Items, All, Contains, IfOk, IfSome, IfNone, IsErrOf, IsTrue, OnOk, length};
-ghost use Rattle.iam_types.specs.declared.fact.Fact.{Fact as AFact};
+ghost use Rattle.std.specs.Prelude.{◌≡◌, ◌↔◌, ◌+◌, ℕ, [], ◌∷◌, List, All, Contains, IfOk, IfSome, IfNone, IsErrOf, IsTrue, OnOk, length};
+ghost use Rattle.std.specs.Option.{option_copied};
+ghost use Rattle.iam_types.specs.declared.fact.Fact.{Fact};
 ghost use Rattle.iam_text.specs.Put.{placed};
 ghost use Rattle.iam_model.specs.Broken.{GiveTables, HasOneOrg, IsFirstBroken, IsOnlyOrg};
 ghost use Rattle.iam_model.specs.Consistent.{Consistent};
-ghost use Rattle.iam_model.specs.Facts.{AreApart, fact_order, facts_of, tables_with as the_tables};
+ghost use Rattle.iam_model.specs.Facts as spec;
+ghost use Rattle.iam_model.specs.Facts.{AreApart, fact_order, facts_of};
 ghost use Rattle.iam_model.specs.Formed.{IsFact};
 ghost use Rattle.iam_model.specs.Part.{rows_in, table_of};
 ghost use Rattle.iam_model.specs.Parts.{allow_part, org_part};
-ghost use Rattle.iam_types.specs.declared.tables.Tables.{Tables as TheTables};
+ghost use Rattle.iam_types.specs.declared.tables.Tables.{Tables};
 ghost use Rattle.iam_tables.specs.Back.{GivesBack};
-ghost use Rattle.iam_tables.specs.declared.stop.TablesStop.TheVariants.{Inconsistent as Breaks};
 
 use crate::consistent::broken_rule;
 use crate::stop::TablesStop;
@@ -22,25 +23,33 @@ use iam_text::{List, OutOfMemory, put_row};
 use iam_types::{AllowPolicy, Fact, Org, Tables, copy_org, copy_policy};
 use std::alloc::Global;
 
+fn org_of(fact: &Fact) -> Option<&Org>
+    ensures { option_copied result ≡ org_part.out fact.now }
+{
+    match fact {
+        Fact::Org(org) => Some(org),
+        Fact::Node(_)
+        | Fact::Key(_)
+        | Fact::Value(_)
+        | Fact::Tag(_)
+        | Fact::Group(_)
+        | Fact::Edge(_)
+        | Fact::Role(_)
+        | Fact::Allow(_)
+        | Fact::Deny(_)
+        | Fact::Boundary(_)
+        | Fact::Bound(_) => None,
+    }
+}
+
 // The first organisation, and the facts behind it.
 fn first_org(facts: &[Fact]) -> Option<(&Org, &[Fact])>
     ensures first { IfSome result (λ found. rows_in org_part facts.now ≡ found.0.now ∷ rows_in org_part found.1.now) }
     ensures none { IfNone result (rows_in org_part facts.now ≡ []) }
 {
     for (at, fact) in facts.iter().enumerate() {
-        match fact {
-            Fact::Org(org) => return Some((org, facts.split_at(at + 1).1)),
-            Fact::Node(_)
-            | Fact::Key(_)
-            | Fact::Value(_)
-            | Fact::Tag(_)
-            | Fact::Group(_)
-            | Fact::Edge(_)
-            | Fact::Role(_)
-            | Fact::Allow(_)
-            | Fact::Deny(_)
-            | Fact::Boundary(_)
-            | Fact::Bound(_) => {}
+        if let Some(org) = org_of(fact) {
+            return Some((org, facts.split_at(at + 1).1));
         }
     }
     None
@@ -63,7 +72,7 @@ fn only_org(facts: &[Fact]) -> Option<&Org>
 
 // Puts the policy of one more fact that stands before the others, if it has one.
 fn put_policy_of(rows: &mut List<AllowPolicy>, fact: &Fact) -> Result<(), OutOfMemory>
-    ensures { (others : Items AFact) → rows.old ≡ table_of allow_part others → OnOk result (rows.new ≡ table_of allow_part (fact.now ∷ others)) }
+    ensures { (others : List Fact) → rows.old ≡ table_of allow_part others → OnOk result (rows.new ≡ table_of allow_part (fact.now ∷ others)) }
 {
     match fact {
         Fact::Allow(policy) => put_row(rows, copy_policy(policy)?),
@@ -95,7 +104,7 @@ fn policies_of(alloc: Global, facts: &[Fact]) -> Result<List<AllowPolicy>, OutOf
 }
 
 fn tables_with(alloc: Global, org: &Org, allows: List<AllowPolicy>) -> Result<Tables, OutOfMemory>
-    ensures { (facts : Items AFact) → All IsFact facts → allows ≡ table_of allow_part facts → IfOk result (λ tables. tables ≡ the_tables org.now facts) }
+    ensures { (facts : List Fact) → All IsFact facts → allows ≡ table_of allow_part facts → IfOk result (λ tables. tables ≡ spec.tables_with org.now facts) }
 {
     nothing_else_is_given();
     Ok(Tables {
@@ -127,7 +136,7 @@ fn tables_of(alloc: Global, facts: &[Fact]) -> Result<Tables, TablesStop>
     requires { All IsFact facts.now }
     ensures given { IfOk result (GiveTables facts.now) }
     ensures consistent { IfOk result Consistent }
-    ensures broken { (rule : ℕ) → IsErrOf result (Breaks rule) → IsFirstBroken facts.now rule }
+    ensures broken { (rule : ℕ) → IsErrOf result (TablesStop.Inconsistent rule) → IsFirstBroken facts.now rule }
 {
     given_tables_are_consistent();
     tables_have_placed_facts();
@@ -151,9 +160,9 @@ pub fn from_facts(alloc: Global, facts: List<Fact>) -> Result<Tables, TablesStop
     requires { All IsFact facts }
     ensures given { IfOk result (GiveTables facts) }
     ensures consistent { IfOk result Consistent }
-    ensures broken { (rule : ℕ) → IsErrOf result (Breaks rule) → IsFirstBroken facts rule }
+    ensures broken { (rule : ℕ) → IsErrOf result (TablesStop.Inconsistent rule) → IsFirstBroken facts rule }
     // The facts of consistent tables give these tables back, in any order.
-    ensures back { (tables : TheTables) → Consistent tables → AreApart facts → ((fact : AFact) → Contains facts fact ↔ Contains (facts_of tables) fact) → GivesBack tables result }
+    ensures back { (tables : Tables) → Consistent tables → AreApart facts → ((fact : Fact) → Contains facts fact ↔ Contains (facts_of tables) fact) → GivesBack tables result }
 {
     consistent_tables_are_given();
     broken_facts_give_none();

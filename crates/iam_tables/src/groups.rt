@@ -2,7 +2,8 @@
 ghost use Rattle.std.specs.Prelude.{◌≡◌, ◌++◌, IfOk, OnOk, length};
 ghost use Rattle.std.specs.List.{flat_map, list_any};
 ghost use Rattle.std.specs.Str.{bytes_eq};
-ghost use Rattle.iam_model.specs.Policies.{count_groups as the_count, different, group_of, groups_in as the_groups};
+ghost use Rattle.iam_model.specs.Policies as spec;
+ghost use Rattle.iam_model.specs.Policies.{different, group_of};
 
 use iam_names::{Email, Member, copy_email};
 use iam_text::{List, OutOfMemory};
@@ -29,7 +30,7 @@ fn push_groups(groups: &mut List<Email>, members: &[Member]) -> Result<(), OutOf
 }
 
 fn groups_in(alloc: Global, bindings: &[Binding]) -> Result<List<Email>, OutOfMemory>
-    ensures { IfOk result (λ groups. groups ≡ the_groups bindings.now) }
+    ensures { IfOk result (λ groups. groups ≡ spec.groups_in bindings.now) }
 {
     let mut groups = List::new(alloc);
     for binding in bindings {
@@ -58,7 +59,7 @@ fn count_different(groups: &[Email]) -> usize
 
 /// Different groups in a policy.
 pub fn count_groups(alloc: Global, bindings: &[Binding]) -> Result<u64, OutOfMemory>
-    ensures { IfOk result (λ count. count ≡ the_count bindings.now) }
+    ensures { IfOk result (λ count. count ≡ spec.count_groups bindings.now) }
 {
     let groups = groups_in(alloc, bindings)?;
     Ok(count_different(groups.as_slice()) as u64)

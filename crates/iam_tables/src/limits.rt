@@ -1,12 +1,12 @@
 // The numbers of the limits.
 ghost use Rattle.std.specs.Prelude.{◌≡◌};
-ghost use Rattle.iam_model.specs.Limits.{limit_of as the_limit};
+ghost use Rattle.iam_model.specs.Limits as spec;
 
 use iam_types::LimitName;
 
 /// The most that a limit lets stand.
 pub fn limit_of(which: LimitName) -> u64
-    ensures { result ≡ the_limit which }
+    ensures { result ≡ spec.limit_of which }
 {
     match which {
         LimitName::PolicyMembers => 1_500,

@@ -1,6 +1,6 @@
 // What an organisation starts from.
 ghost use Rattle.std.specs.Prelude.{◌≡◌, IfOk};
-ghost use Rattle.iam_model.specs.Opening.{opening_tables as tables_of_opening};
+ghost use Rattle.iam_model.specs.Opening as spec;
 
 use iam_names::{NodeId, NodeKind, RoleName, copy_member};
 use iam_text::{List, OutOfMemory, Text};
@@ -14,7 +14,7 @@ fn copy_text(alloc: Global, text: &Text) -> Result<Text, OutOfMemory>
 }
 
 fn opening_org(alloc: Global, opening: &Opening) -> Result<Org, OutOfMemory>
-    ensures { IfOk result (λ org. org ≡ (tables_of_opening opening.now).org) }
+    ensures { IfOk result (λ org. org ≡ (spec.opening_tables opening.now).org) }
 {
     Ok(Org {
         number: opening.number,
@@ -26,7 +26,7 @@ fn opening_org(alloc: Global, opening: &Opening) -> Result<Org, OutOfMemory>
 }
 
 fn opening_policies(alloc: Global, opening: &Opening) -> Result<List<AllowPolicy>, OutOfMemory>
-    ensures { IfOk result (λ allows. allows ≡ (tables_of_opening opening.now).allows) }
+    ensures { IfOk result (λ allows. allows ≡ (spec.opening_tables opening.now).allows) }
 {
     let mut members = List::new(alloc);
     members.push(copy_member(&opening.admin)?)?;
@@ -51,7 +51,7 @@ fn opening_policies(alloc: Global, opening: &Opening) -> Result<List<AllowPolicy
 
 /// The tables that an organisation starts from.
 pub fn opening_tables(alloc: Global, opening: &Opening) -> Result<Tables, OutOfMemory>
-    ensures { IfOk result (λ tables. tables ≡ tables_of_opening opening.now) }
+    ensures { IfOk result (λ tables. tables ≡ spec.opening_tables opening.now) }
 {
     Ok(Tables {
         org: opening_org(alloc, opening)?,

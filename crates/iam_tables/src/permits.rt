@@ -1,5 +1,5 @@
 // The permissions of the catalogue.
-ghost use Rattle.std.specs.Prelude.{◌≡◌, ◌++◌, IfOk, IsTrue, OnOk, map, string_bytes};
+ghost use Rattle.std.specs.Prelude.{◌≡◌, ◌++◌, IfOk, IsTrue, OnOk, codes, map, string_bytes};
 ghost use Rattle.std.specs.List.{All, flat_map};
 ghost use Rattle.iam_names.specs.Permission.{IsPermission};
 ghost use Rattle.iam_model.specs.Catalogue.{is_permission, permission_of, permit_of, permits_of};
@@ -11,14 +11,20 @@ use iam_text::{List, OutOfMemory, Text};
 use iam_types::Permit;
 use std::alloc::{AllocError, Global};
 
+// Puts one more part of a name at the end, behind a dot.
+fn push_part(text: &mut String, part: &str) -> Result<(), AllocError>
+    ensures { OnOk result (string_bytes text.new ≡ string_bytes text.old ++ codes "." ++ part.now) }
+{
+    text.push_str(".")?;
+    text.push_str(part)
+}
+
 fn permission_text(alloc: Global, line: &CatalogueLine, verb: &str) -> Result<String, AllocError>
     ensures { IfOk result (λ text. string_bytes text ≡ permission_of (line_of line.now) verb.now) }
 {
     let mut text = String::from_str(alloc, line.service)?;
-    text.push_str(".")?;
-    text.push_str(line.resource)?;
-    text.push_str(".")?;
-    text.push_str(verb)?;
+    push_part(&mut text, line.resource)?;
+    push_part(&mut text, verb)?;
     Ok(text)
 }
 

@@ -3,7 +3,8 @@ ghost use Rattle.std.specs.Prelude.{◌≡◌, ◌++◌, IfOk, OnOk, map, true};
 ghost use Rattle.std.specs.List.{All, flat_map, list_any};
 ghost use Rattle.std.specs.Str.{bytes_eq};
 ghost use Rattle.std.specs.Option.{option_map, option_map_or};
-ghost use Rattle.iam_model.specs.Presets.{fits as fits_pattern, is_absent_or, is_empty_or_has, listed_of, preset_at, same_level as is_same_level};
+ghost use Rattle.iam_model.specs.Presets as spec;
+ghost use Rattle.iam_model.specs.Presets.{is_absent_or, is_empty_or_has, listed_of, preset_at};
 ghost use Rattle.iam_tables.specs.Lines.{line_of, listed_at, pattern_of, preset_line_of, IsNamed};
 ghost use Rattle.iam_names.specs.Permission.{IsPermission};
 ghost use Rattle.iam_model.specs.Catalogue.{permission_of};
@@ -17,7 +18,13 @@ use iam_types::{Level, Preset};
 use std::alloc::Global;
 
 fn same_level(a: Level, b: Level) -> bool
-    ensures { result ≡ is_same_level a b }
+    ensures { result ≡ spec.same_level a b }
+{
+    a == b
+}
+
+fn same_text(a: &str, b: &str) -> bool
+    ensures { result ≡ bytes_eq a.now b.now }
 {
     a == b
 }
@@ -27,7 +34,7 @@ fn absent_or(given: Option<&str>, text: &str) -> bool
 {
     match given {
         None => true,
-        Some(only) => only == text,
+        Some(only) => same_text(only, text),
     }
 }
 
@@ -49,7 +56,7 @@ fn empty_or_has(verbs: &[&str], verb: &str) -> bool
 }
 
 fn level_fits(given: Option<Level>, level: Level) -> bool
-    ensures { result ≡ option_map_or (λ only. is_same_level only level) given true }
+    ensures { result ≡ option_map_or (λ only. spec.same_level only level) given true }
 {
     match given {
         None => true,
@@ -58,7 +65,7 @@ fn level_fits(given: Option<Level>, level: Level) -> bool
 }
 
 fn fits(line: &CatalogueLine, verb: &str, pattern: &PermitPattern) -> bool
-    ensures { result ≡ fits_pattern (line_of line.now) verb.now (pattern_of pattern.now) }
+    ensures { result ≡ spec.fits (line_of line.now) verb.now (pattern_of pattern.now) }
 {
     absent_or(pattern.service, line.service)
         && absent_or(pattern.resource, line.resource)
@@ -67,13 +74,13 @@ fn fits(line: &CatalogueLine, verb: &str, pattern: &PermitPattern) -> bool
 }
 
 fn any_fits(line: &CatalogueLine, verb: &str, patterns: &[PermitPattern]) -> bool
-    ensures { result ≡ list_any (λ pattern. fits_pattern (line_of line.now) verb.now (pattern_of pattern)) patterns.now }
+    ensures { result ≡ list_any (λ pattern. spec.fits (line_of line.now) verb.now (pattern_of pattern)) patterns.now }
 {
     patterns.iter().any(|pattern| fits(line, verb, pattern))
 }
 
 fn fits_any(line: &CatalogueLine, verb: &str, patterns: &[PermitPattern]) -> bool
-    ensures { result ≡ list_any (fits_pattern (line_of line.now) verb.now) (map pattern_of patterns.now) }
+    ensures { result ≡ list_any (spec.fits (line_of line.now) verb.now) (map pattern_of patterns.now) }
 {
     any_fits(line, verb, patterns)
 }

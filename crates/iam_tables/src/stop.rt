@@ -10,9 +10,9 @@ pub enum TablesStop {
 
 impl From<OutOfMemory> for TablesStop {
     ghost use Rattle.std.specs.Prelude.{◌≡◌};
-    ghost use Rattle.iam_tables.specs.declared.stop.TablesStop.TheVariants.{OutOfMemory as NoMemory};
+    ghost use Rattle.iam_tables.specs.declared.stop.TablesStop.TheVariants as variant;
 
-    ghost from_gives = { λ _ stop. stop ≡ NoMemory };
+    ghost from_gives = { λ _ stop. stop ≡ variant.OutOfMemory };
 
     fn from(_: OutOfMemory) -> TablesStop {
         TablesStop::OutOfMemory
