@@ -40,7 +40,6 @@ fn index_of(
     ensures ok { IfOk result (λ index. index ≡ tables) }
     ensures err { IfErr result (λ stop. stop ≡ OpenStop.OutOfMemory) }
 {
-    conditions_stand();
     match Index::build(alloc, tables, catalogue, zones) {
         Ok(index) => Ok(index),
         Err(BuildStop::BadCondition) => unreachable!(),
