@@ -1,12 +1,12 @@
 -- The permissions of the readings of policies are in the catalogue.
-use Rattle.std.specs.Prelude.{IsTrue}
+use Rattle.std.specs.Prelude.{IsTrue, codes}
 use Rattle.std.proofs.Common.{refl}
 use Rattle.iam_names.specs.declared.node.NodeKind.{NodeKind}
 use Rattle.iam_names.specs.declared.node.NodeKind.TheVariants.{Organization, Folder, Project}
 use Rattle.iam_model.specs.Catalogue.{is_permission, lines, permits}
-use Rattle.iam_answer.specs.Asking.{get_permission}
+use Rattle.iam_law.specs.Asked.{permission_at}
 
-pub get_is_known : (kind : NodeKind) → IsTrue (is_permission (get_permission kind))
+pub get_is_known : (kind : NodeKind) → IsTrue (is_permission (permission_at kind (codes "getIamPolicy")))
 unfolding lines permits
 get_is_known Organization = refl
 get_is_known Folder = refl

@@ -1,5 +1,5 @@
 -- What a read comes to in a state, and a change in the state after it.
-use Rattle.std.specs.Prelude.{ℕ, not, List, [], ◌∷◌, length}
+use Rattle.std.specs.Prelude.{ℕ, not, List, [], ◌∷◌, length, codes}
 use Rattle.std.specs.declared.option.Option.{Option}
 use Rattle.std.specs.Option.{option_map, option_map_or}
 use Rattle.iam_text.specs.declared.moment.Moment.{Moment}
@@ -24,8 +24,8 @@ use Rattle.iam_model.specs.Nodes.{resolve}
 use Rattle.iam_model.specs.Policies.{bindings_at, etag_of}
 use Rattle.iam_model.specs.Refusals.{first_of, refused_if}
 use Rattle.iam_model.specs.Shared.{is_version}
-use Rattle.iam_law.specs.Asked.{forbidden}
-use Rattle.iam_answer.specs.Asking.{query_of, allowed_of, first_unknown, get_permission}
+use Rattle.iam_law.specs.Asked.{forbidden, permission_at}
+use Rattle.iam_answer.specs.Asking.{query_of, allowed_of, first_unknown}
 
 -- the answer at the node of the name, else that there is none
 abbrev pub at_node : Tables → NodeName → (NodeId → Answer) → Answer
@@ -37,30 +37,27 @@ unless refusals answer = option_map_or (λ refusal. Refused refusal) (first_of r
 
 -- ---- a test of permissions
 
-abbrev pub unknown_permission : List (List ℕ) → Option Refusal
-unknown_permission permissions = option_map (λ permission. PermissionUnknown (permission_text permission)) (first_unknown permissions)
-
-abbrev pub test_refusals : List (List ℕ) → List (Option Refusal)
-test_refusals permissions = unknown_permission permissions ∷ beyond (length permissions) PermissionsAsked ∷ []
-
+-- refused where a permission is unknown, or where there are too many
 abbrev pub test_answer : Tables → NodeId → List (List ℕ) → Caller → Moment → Answer
-test_answer tables node permissions caller moment = unless (test_refusals permissions) (Permissions (allowed_of tables node caller moment permissions))
+test_answer tables node permissions caller moment =
+    unless (
+    option_map (λ permission. PermissionUnknown (permission_text permission)) (first_unknown permissions) ∷ beyond (length permissions) PermissionsAsked ∷ []
+    ) (Permissions (allowed_of tables node caller moment permissions))
 
 -- ---- the reading of a policy
 
 -- the caller may not read the policy there
 abbrev pub may_not_get : Tables → NodeId → Caller → Moment → Option Refusal
-may_not_get tables node caller moment = forbidden tables (query_of node caller moment (get_permission node.kind))
-
-abbrev pub policy_refusals : Tables → NodeId → ℕ → Caller → Moment → List (Option Refusal)
-policy_refusals tables node version caller moment = may_not_get tables node caller moment ∷ refused_if (not (is_version version)) (Version version) ∷ []
+may_not_get tables node caller moment = forbidden tables (query_of node caller moment (permission_at node.kind (codes "getIamPolicy")))
 
 -- the policy as it is shown: no conditions can be stored yet, so its version is 1 whichever was asked for
 abbrev pub policy_shown : Tables → NodeId → Answer
 policy_shown tables node = APolicy (bindings_at tables node) (etag_of tables node) 1
 
+-- refused where the caller may not read it, or where there is no such version
 abbrev pub policy_answer : Tables → NodeId → ℕ → Caller → Moment → Answer
-policy_answer tables node version caller moment = unless (policy_refusals tables node version caller moment) (policy_shown tables node)
+policy_answer tables node version caller moment =
+    unless (may_not_get tables node caller moment ∷ refused_if (not (is_version version)) (Version version) ∷ []) (policy_shown tables node)
 
 -- what is shown of what can't be asked or given yet
 abbrev pub nothing_shown : Answer

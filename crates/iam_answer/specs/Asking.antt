@@ -1,25 +1,21 @@
 -- What a read asks the decision.
-use Rattle.std.specs.Prelude.{ℕ, Bool, true, false, not, List, [], filter, codes}
+use Rattle.std.specs.Prelude.{ℕ, Bool, true, false, not, List, [], filter}
 use Rattle.std.specs.List.{find}
 use Rattle.std.specs.declared.option.Option.{Option}
 use Rattle.iam_text.specs.declared.moment.Moment.{Moment}
 use Rattle.iam_names.specs.declared.caller.Caller.{Caller}
-use Rattle.iam_names.specs.declared.node.NodeKind.{NodeKind}
 use Rattle.iam_names.specs.declared.node.NodeId.{NodeId}
 use Rattle.iam_types.specs.declared.query.Decision.{Decision}
 use Rattle.iam_types.specs.declared.query.Decision.TheVariants.{Allowed, DeniedBoundary, DeniedRule, NotGranted}
 use Rattle.iam_types.specs.declared.query.Query.{Query}
 use Rattle.iam_types.specs.declared.tables.Tables.{Tables}
 use Rattle.iam_model.specs.Catalogue.{is_permission}
-use Rattle.iam_law.specs.Asked.{permission_at, query_on}
+use Rattle.iam_law.specs.Asked.{query_on}
 use Rattle.iam_law.specs.Decide.{decide}
 
 -- may the caller use the permission on the node, at this moment?
 abbrev pub query_of : NodeId → Caller → Moment → List ℕ → Query
 query_of node caller moment permission = query_on caller moment [] permission node
-
-abbrev pub decision_of : Tables → NodeId → Caller → Moment → List ℕ → Decision
-decision_of tables node caller moment permission = decide tables (query_of node caller moment permission)
 
 abbrev pub allows : Decision → Bool
 allows (Allowed node place) = true
@@ -28,7 +24,7 @@ allows (DeniedRule policy rule) = false
 allows NotGranted = false
 
 abbrev pub is_allowed : Tables → NodeId → Caller → Moment → List ℕ → Bool
-is_allowed tables node caller moment permission = allows (decision_of tables node caller moment permission)
+is_allowed tables node caller moment permission = allows (decide tables (query_of node caller moment permission))
 
 -- those that the decision allows, in the order asked
 abbrev pub allowed_of : Tables → NodeId → Caller → Moment → List (List ℕ) → List (List ℕ)
@@ -37,7 +33,3 @@ allowed_of tables node caller moment permissions = filter (is_allowed tables nod
 -- the first of these that isn't in the catalogue
 abbrev pub first_unknown : List (List ℕ) → Option (List ℕ)
 first_unknown permissions = find (λ permission. not (is_permission permission)) permissions
-
--- who may read a node's policy
-abbrev pub get_permission : NodeKind → List ℕ
-get_permission kind = permission_at kind (codes "getIamPolicy")

@@ -1,8 +1,8 @@
 // The reading of a node's policy.
-ghost use Rattle.std.specs.Prelude.{◌≡◌, IfOk, IsTrue};
+ghost use Rattle.std.specs.Prelude.{◌≡◌, IfOk, IsTrue, codes};
 ghost use Rattle.iam_model.specs.Nodes.{exists};
+ghost use Rattle.iam_law.specs.Asked.{permission_at};
 ghost use Rattle.iam_answer.specs.Answer.{may_not_get, policy_answer, policy_shown};
-ghost use Rattle.iam_answer.specs.Asking.{get_permission};
 
 use crate::queries::decision_of;
 use iam_judge::{Index, unless_allowed};
@@ -14,7 +14,7 @@ use iam_text::{List, Moment, OutOfMemory};
 use std::alloc::Global;
 
 fn get_text(kind: NodeKind) -> &'static str
-    ensures { result.now ≡ get_permission kind }
+    ensures { result.now ≡ permission_at kind (codes "getIamPolicy") }
 {
     match kind {
         NodeKind::Organization => "resourcemanager.organizations.getIamPolicy",

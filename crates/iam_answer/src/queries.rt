@@ -2,7 +2,8 @@
 ghost use Rattle.std.specs.Prelude.{◌≡◌, IfOk, IsTrue};
 ghost use Rattle.iam_model.specs.Catalogue.{is_permission};
 ghost use Rattle.iam_model.specs.Nodes.{exists};
-ghost use Rattle.iam_answer.specs.Asking.{query_of as the_query, decision_of as the_decision, allows as allows_it};
+ghost use Rattle.iam_law.specs.Decide.{decide};
+ghost use Rattle.iam_answer.specs.Asking.{query_of as the_query, allows as allows_it};
 
 use iam_judge::{Index, resource_facts_of};
 use iam_names::{Caller, NodeId, PermissionName, copy_caller, copy_permission};
@@ -40,7 +41,7 @@ pub fn decision_of(
 ) -> Result<Decision, OutOfMemory>
     requires node { IsTrue (exists index.now node) }
     requires permission { IsTrue (is_permission permission.now) }
-    ensures { IfOk result (λ decision. decision ≡ the_decision index.now node caller.now moment permission.now) }
+    ensures { IfOk result (λ decision. decision ≡ decide index.now (the_query node caller.now moment permission.now)) }
 {
     let query = query_of(alloc, node, caller, moment, permission)?;
     index.decision(alloc, &query)

@@ -1,12 +1,16 @@
 -- What a message asks to be written is well formed, and which messages ask for no change.
 use Rattle.std.proofs.Common.{◌≡◌, ℕ, Bool, true, false, not, ◌||◌, List, [], ◌∷◌, ◌++◌, refl, sym, ◌∙◌, ap, subst, arith, reverse}
 use Rattle.std.specs.Bool.{◌==◌}
-use Rattle.std.specs.Prelude.{cond, codes, is_some, Option, Some, None}
+use Rattle.std.specs.Prelude.{◌≢◌, cond, codes, length, drop, Option, Some, None}
 use Rattle.std.specs.List.{Contains, list_all, list_any, starts_with}
 use Rattle.std.specs.Str.{bytes_eq}
-use Rattle.std.proofs.lemmas.List.{reverse-append}
+use Rattle.std.specs.Char.{is_ascii_alphabetic}
+use Rattle.std.proofs.lemmas.Bool.{and_parts}
+use Rattle.std.proofs.lemmas.Bool.Decides.{Decides-eqb}
+use Rattle.std.proofs.lemmas.List.{reverse-append, reverse-reverse}
 use Rattle.std.proofs.lemmas.List.Elements.{All-contains}
 use Rattle.std.proofs.lemmas.List.Sums.{AllPass-from_list_all}
+use Rattle.std.proofs.lemmas.Slice.Eq.{starts_is}
 use Rattle.iam_names.specs.Caller.{IsCaller}
 use Rattle.iam_names.specs.declared.caller.Caller.{Caller}
 use Rattle.iam_types.specs.declared.command.Command.{Command}
@@ -18,7 +22,7 @@ use Rattle.iam_wire.specs.declared.message.Field.{Field}
 use Rattle.iam_wire.specs.declared.message.Field.TheVariants.{Absent, One, Bad}
 use Rattle.iam_wire.specs.declared.message.Message.{Message}
 use Rattle.iam_routes.specs.Asked.{IsAsked, NamesCaller}
-use Rattle.iam_routes.specs.Routes.{RouteLine, IsCut, Reaches, colon, lines, path_of}
+use Rattle.iam_routes.specs.Routes.{RouteLine, IsCut, IsVerb, Reaches, colon, lines, path_of}
 use Rattle.iam_routes.specs.declared.given.Asked.TheVariants.{Given}
 use Rattle.iam_answer.proofs.Given.{command_is}
 use Rattle.iam_answer.proofs.Reading.{reads_at, read_line, write_line}
@@ -65,21 +69,53 @@ lines_agree : (place : List ℕ) (line : RouteLine) → Contains lines line → 
 unfolding lines
 lines_agree place line there = agree_same (reads_at line.line) (reads_by place line) (each_line (λ l. agree (reads_at l.line) (reads_by place l)) refl line there)
 
--- each line has a verb by now
-lines_have_verbs : (line : RouteLine) → Contains lines line → is_some line.verb ≡ true
-unfolding lines
-lines_have_verbs line there = each_line (λ l. is_some l.verb) refl line there
+-- ---- a path that isn't cut has none of the verbs, whichever its line is
+
+-- a verb, as a test
+abbrev is_verb : List ℕ → Bool
+is_verb [] = false
+is_verb (b ∷ text) = list_all is_ascii_alphabetic (b ∷ text)
+
+some_letters : (b : ℕ) (text : List ℕ) → b ∷ text ≡ [] → ⊥
+some_letters b text is = cc
+
+verb_is : (text : List ℕ) → is_verb text ≡ true → IsVerb text
+verb_is [] is = absurd (cc)
+verb_is (b ∷ text) is = (some_letters b text, is)
+
+-- what stands before the verb at the end of a path
+abbrev before_verb : List ℕ → List ℕ → List ℕ
+before_verb path verb = reverse (drop (length (reverse (colon ∷ verb))) (reverse path))
+
+ends_so : (path verb : List ℕ) → has_verb path verb ≡ true → path ≡ before_verb path verb ++ colon ∷ verb
+ends_so path verb is =
+    let end : List ℕ = reverse (colon ∷ verb) in
+    let left : List ℕ = drop (length end) (reverse path) in
+    let parts : reverse path ≡ end ++ left = (starts_is Decides-eqb (reverse path) end (has_verb path verb) refl).0 is in
+    sym (reverse-reverse path) ∙ ap reverse parts ∙ reverse-append end left ∙ ap (λ t. reverse left ++ t) (reverse-reverse (colon ∷ verb))
+
+not_its_end : (path verb : List ℕ) → ((front text : List ℕ) → IsVerb text → path ≢ front ++ colon ∷ text) → IsVerb verb → has_verb path verb ≡ false
+not_its_end path verb uncut is = elim (has_verb path verb) as (λ b. has_verb path verb ≡ b → has_verb path verb ≡ false) [
+  | true ↦ λ ends. absurd (uncut (before_verb path verb) verb is (ends_so path verb ends))
+  | false ↦ λ other. other
+] refl
+
+none_ends : (path : List ℕ) (verbs : List (List ℕ)) → ((front text : List ℕ) → IsVerb text → path ≢ front ++ colon ∷ text) → list_all is_verb verbs ≡ true → list_any (has_verb path) verbs ≡ false
+none_ends path [] uncut all = refl
+none_ends path (verb ∷ verbs) uncut all =
+    let parts = and_parts (is_verb verb) (list_all is_verb verbs) all in
+    ap (λ (b : Bool). b || list_any (has_verb path) verbs) (not_its_end path verb uncut (verb_is verb parts.0)) ∙ none_ends path verbs uncut parts.1
 
 -- the path of the message ends as that of its line does
-by_verb : (verb : Option (List ℕ)) (path place : List ℕ) → is_some verb ≡ true → IsCut path place verb → list_any (has_verb path) reading_verbs ≡ verb_reads verb (reverse place)
-by_verb None path place some is = cc
-by_verb (Some text) path place some is =
+by_verb : (verb : Option (List ℕ)) (path place : List ℕ) → IsCut path place verb → list_any (has_verb path) reading_verbs ≡ verb_reads verb (reverse place)
+by_verb None path place is = none_ends path reading_verbs is.1 refl
+by_verb (Some text) path place is =
     ap (λ p. list_any (λ verb. starts_with ◌==◌ p (reverse (colon ∷ verb))) reading_verbs) (ap reverse is.1 ∙ reverse-append place (colon ∷ text))
 
 by_line : (message : Message) (line : RouteLine) (parts : List (List ℕ)) (reaches : Reaches message.method message.target line parts) → only_reads message ≡ reads_by (reverse reaches.path.0) line
 by_line message line parts reaches =
     ap (λ m. bytes_eq m (codes "GET") || list_any (has_verb (path_of message.target)) reading_verbs) (sym reaches.method_is)
-    ∙ ap (λ reads. bytes_eq line.method (codes "GET") || reads) (by_verb line.verb (path_of message.target) reaches.path.0 (lines_have_verbs line reaches.on_table) reaches.path.1)
+    ∙ ap (λ reads. bytes_eq line.method (codes "GET") || reads) (by_verb line.verb (path_of message.target) reaches.path.0 reaches.path.1)
 
 pub read_only : (message : Message) (caller : Caller) (ask : Ask) → AsksRead message caller ask → only_reads message ≡ true
 read_only message caller ask asked =

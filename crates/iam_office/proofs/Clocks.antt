@@ -1,5 +1,6 @@
 -- Moments and faults of steps.
 use Rattle.std.proofs.Common.{◌≡◌, ℕ, ◌+◌, ◌≤◌, List, [], ◌∷◌, ◌++◌, length, Some, None, inl, inr, subst, sym, ◌∙◌, ap, refl, arith, append_assoc, append-nil, length-append, zero-add}
+use Rattle.std.specs.Prelude.{flat_map, sum_by}
 use Rattle.std.specs.declared.option.Option.{Option}
 use Rattle.std.proofs.lemmas.Grind.{flat_map-append}
 use Rattle.std.proofs.lemmas.List.Sums.{sum_by-append}
@@ -12,7 +13,7 @@ use Rattle.iam_types.specs.declared.answer.Answer.{Answer}
 use Rattle.iam_json.specs.declared.details.Details.{Details}
 use Rattle.iam_office.specs.Replying.{IsShown, IsStopped, IsTimed, SaysNoMemory, SaysPlainly}
 use Rattle.iam_office.specs.Talks.{LostClock}
-use Rattle.iam_office.specs.Turns.{Clocked, Rise, moments_of, all_moments, keeper_faults_of, all_keeper_faults, clock_faults_of, all_clock_faults}
+use Rattle.iam_office.specs.Turns.{Clocked, Rise, moments_of, keeper_faults_of, all_keeper_faults, clock_faults_of}
 use Rattle.iam_office.specs.declared.office.WriteStop.{WriteStop}
 use Rattle.iam_office.specs.declared.office.WriteStop.TheVariants.{KeeperFault as WriteFailed, OutOfMemory as WriteMemory}
 
@@ -41,10 +42,10 @@ timed_stopped (WriteMemory (Some number)) moment said bytes says = timed_as mome
 
 -- ---- the clock of one step
 
-one_moments : (step : Step) → all_moments (step ∷ []) ≡ moments_of step
+one_moments : (step : Step) → flat_map moments_of (step ∷ []) ≡ moments_of step
 one_moments step = append-nil (moments_of step)
 
-one_clock : (step : Step) → all_clock_faults (step ∷ []) ≡ clock_faults_of step
+one_clock : (step : Step) → sum_by clock_faults_of (step ∷ []) ≡ clock_faults_of step
 one_clock step = simp zero-add
 
 -- a step at a moment that the clock gave
@@ -113,7 +114,7 @@ clocked_plain a b i j steps p = clocked_on a b b i j j steps (Plain ∷ []) p (c
 -- where the steps end with a clock's fault its count rose
 pub lost_rose : (a b : Option (List Moment)) (i j : ℕ) (steps : List Step) → LostClock steps → Clocked a b i j steps → Rose i j
 lost_rose a b i j steps lost p =
-    let sum : all_clock_faults steps ≡ all_clock_faults lost.0 + all_clock_faults (NoClock ∷ []) = ap all_clock_faults lost.1 ∙ sum_by-append clock_faults_of lost.0 (NoClock ∷ []) in
+    let sum : sum_by clock_faults_of steps ≡ sum_by clock_faults_of lost.0 + sum_by clock_faults_of (NoClock ∷ []) = ap (sum_by clock_faults_of) lost.1 ∙ sum_by-append clock_faults_of lost.0 (NoClock ∷ []) in
     omega (arith, sum, one_clock NoClock, p.failed)
 
 -- ---- the keeper's faults

@@ -62,12 +62,12 @@ abbrev stay : (end : TalkEnd) (b : Option (List ℕ)) (steps : List Step) → ((
 stay end b steps written closes = record { tail = []; written = written; closes = closes }
 
 pub stays : (end : TalkEnd) (b : Option (List ℕ)) (steps : List Step) → (end ≡ Done) ⊎ ((end ≡ Cut) ⊎ ((end ≡ ReadFault) ⊎ ((end ≡ WriteFault) ⊎ ((end ≡ ClockFault) ⊎ (end ≡ Enough))))) → Finishes end end b b steps steps
-stays end b steps (inl is) = subst (λ e. Finishes e e b b steps steps) (sym is) (stay Done b steps (λ first pieces w. subst (WroteAt Done first b) (sym (append-nil pieces)) w) (λ rest ends. (ends, (refl, refl))))
+stays end b steps (inl is) = subst (λ e. Finishes e e b b steps steps) (sym is) (stay Done b steps (λ first pieces w. subst (WroteAt Done first b) (sym (append-nil pieces)) w) (λ rest ends. (ends, refl, refl)))
 stays end b steps (inr (inl is)) = subst (λ e. Finishes e e b b steps steps) (sym is) (stay Cut b steps (λ first pieces w. subst (WroteAt Cut first b) (sym (append-nil pieces)) w) (λ rest ends. absurd ends))
 stays end b steps (inr (inr (inl is))) = subst (λ e. Finishes e e b b steps steps) (sym is) (stay ReadFault b steps (λ first pieces w. subst (WroteAt ReadFault first b) (sym (append-nil pieces)) w) (λ rest ends. absurd ends))
-stays end b steps (inr (inr (inr (inl is)))) = subst (λ e. Finishes e e b b steps steps) (sym is) (stay WriteFault b steps (λ first pieces w. subst (WroteAt WriteFault first b) (sym (append-nil pieces)) w) (λ rest ends. inl (ends, (refl, refl))))
-stays end b steps (inr (inr (inr (inr (inl is))))) = subst (λ e. Finishes e e b b steps steps) (sym is) (stay ClockFault b steps (λ first pieces w. subst (WroteAt ClockFault first b) (sym (append-nil pieces)) w) (λ rest ends. (ends, (refl, refl))))
-stays end b steps (inr (inr (inr (inr (inr is))))) = subst (λ e. Finishes e e b b steps steps) (sym is) (stay Enough b steps (λ first pieces w. subst (WroteAt Enough first b) (sym (append-nil pieces)) w) (λ rest ends. (ends, (refl, refl))))
+stays end b steps (inr (inr (inr (inl is)))) = subst (λ e. Finishes e e b b steps steps) (sym is) (stay WriteFault b steps (λ first pieces w. subst (WroteAt WriteFault first b) (sym (append-nil pieces)) w) (λ rest ends. inl (ends, refl, refl)))
+stays end b steps (inr (inr (inr (inr (inl is))))) = subst (λ e. Finishes e e b b steps steps) (sym is) (stay ClockFault b steps (λ first pieces w. subst (WroteAt ClockFault first b) (sym (append-nil pieces)) w) (λ rest ends. (ends, refl, refl)))
+stays end b steps (inr (inr (inr (inr (inr is))))) = subst (λ e. Finishes e e b b steps steps) (sym is) (stay Enough b steps (λ first pieces w. subst (WroteAt Enough first b) (sym (append-nil pieces)) w) (λ rest ends. (ends, refl, refl)))
 
 -- how often writing failed in all
 pub writes_on : (end result : TalkEnd) (piece : List ℕ) (b c : Option (List ℕ)) (i j first : ℕ) → failed_writes end ≡ 0 → EndsWith end piece b c i j result → Rise 0 first i → Rise (failed_writes result) first j
@@ -160,7 +160,7 @@ talked_unread Told a b bytes now told kept none = record {
   fits = inl refl;
   most = omega arith;
   written = subst (λ x. Appends a x []) (sym kept) (Appends-nil a);
-  closes = (refl, (refl, none));
+  closes = (refl, refl, none);
 }
 
 pub nothing_written : (a b : Option (List ℕ)) → b ≡ a → Appends a b []

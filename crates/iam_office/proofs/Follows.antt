@@ -5,6 +5,7 @@ use Rattle.iam_text.specs.declared.moment.Moment.{Moment}
 use Rattle.iam_names.specs.declared.caller.Caller.{Caller}
 use Rattle.iam_outer.specs.declared.talk.Step.{Step}
 use Rattle.iam_outer.specs.declared.talk.Step.TheVariants.{Plain, Served, NoClock, NoKeeper, NoMemory}
+use Rattle.iam_types.specs.declared.answer.Answer.{Answer}
 use Rattle.iam_types.specs.declared.ask.Ask.{Ask}
 use Rattle.iam_types.specs.declared.command.Command.{Command}
 use Rattle.iam_types.specs.declared.command.Entry.{Entry}
@@ -19,10 +20,10 @@ use Rattle.iam_routes.specs.Asked.{AtMostOneAsking}
 use Rattle.iam_routes.specs.declared.given.Asked.TheVariants.{Refused, Given}
 use Rattle.iam_answer.specs.Answer.{answer_of}
 use Rattle.iam_answer.specs.Replies.{plain_reply, served_reply}
-use Rattle.iam_office.specs.Asks.{AsksWrite}
+use Rattle.iam_office.specs.Asks.{AsksRead, AsksWrite}
 use Rattle.iam_office.specs.Laws.{RepliesFollow}
 use Rattle.iam_office.specs.Office.{JudgedAlone, StoredAlone, gained, verdict}
-use Rattle.iam_office.specs.Replied.{ReadReplied, WriteReplied, Replied, InTurn}
+use Rattle.iam_office.specs.Replied.{Replied, InTurn}
 use Rattle.iam_office.specs.Turns.{Turn, messages_of, steps_of}
 
 -- ---- a message asks one thing
@@ -53,6 +54,17 @@ some_same : (moment : Option Moment) (a b : Moment) → moment ≡ Some a → mo
 some_same moment a b is also = let both = sym is ∙ also in cc both
 
 -- ---- one message
+
+-- the two ways of a reply that is served
+abbrev ReadReplied : Tables → Message → ℕ → Moment → List ℕ → List Entry → Type 0
+ReadReplied now message number moment reply gain =
+    (caller : Caller) × (ask : Ask) × AsksRead message caller ask
+    × (gain ≡ []) × (number ≡ now.org.changes) × (reply ≡ served_reply number moment (answer_of now ask caller moment))
+
+abbrev WriteReplied : Tables → Message → ℕ → Moment → List ℕ → List Entry → Type 0
+WriteReplied now message number moment reply gain =
+    (entry : Entry) × AsksWrite message entry × (entry.moment ≡ moment)
+    × ((value : Answer) × JudgedAlone now entry number value gain × (reply ≡ served_reply number moment value))
 
 reads_same : AtMostOneAsking → (now : Tables) (m : Message) (n : ℕ) (t : Moment) (a b : List ℕ) (x y : List Entry) → ReadReplied now m n t a x → ReadReplied now m n t b y → (a ≡ b) × (x ≡ y)
 reads_same one now m n t a b x y p q =

@@ -19,7 +19,7 @@ use Rattle.iam_wire.specs.Plain.{IsPlain}
 use Rattle.iam_wire.specs.declared.message.Message.{Message}
 use Rattle.iam_office.specs.Accepted.{accepted_at, accepted_in}
 use Rattle.iam_office.specs.Handled.{AppendsPrefix, Answers, Handled, Turned, failures}
-use Rattle.iam_office.specs.Talks.{Answered, Conversed, CutAtTheLast, HadClock, LostClock, Tells, WroteAt}
+use Rattle.iam_office.specs.Talks.{Answered, Conversed, HadClock, LostClock, Tells, WroteAt}
 use Rattle.iam_office.specs.Turns.{Turn, Rise, messages_of, replies_of}
 use Rattle.iam_office.proofs.Leading.{leads_here, leads_on}
 use Rattle.iam_office.proofs.Saying.{conversed_more, conversed_none}
@@ -36,7 +36,7 @@ concat_more rs r = concat-append rs (r ∷ []) ∙ ap (λ l. concat rs ++ l) (ap
 pub piece_whole : (a b c : Option (List ℕ)) (rs : List (List ℕ)) (r : List ℕ) → Appends a b (concat rs) → Appends b c r → Appends a c (concat (rs ++ r ∷ []))
 piece_whole a b c rs r p q = subst (Appends a c) (sym (concat_more rs r)) (Appends-trans a b c (concat rs) r p q)
 
-pub piece_cut : (a b c : Option (List ℕ)) (rs : List (List ℕ)) (r : List ℕ) → Appends a b (concat rs) → AppendsPrefix b c r → CutAtTheLast a c (rs ++ r ∷ [])
+pub piece_cut : (a b c : Option (List ℕ)) (rs : List (List ℕ)) (r : List ℕ) → Appends a b (concat rs) → AppendsPrefix b c r → WroteAt WriteFault a c (rs ++ r ∷ [])
 piece_cut a b c rs r p q = (rs, r, q.0, refl, Appends-trans a b c (concat rs) (take q.0 r) p q.1)
 
 -- ---- one more turn

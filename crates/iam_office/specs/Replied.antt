@@ -1,6 +1,5 @@
 -- What messages come to where nobody else adds to the history: their replies, and what the history gains.
 use Rattle.std.specs.Prelude.{◌≡◌, ℕ, List, [], ◌∷◌, ◌++◌, ◌⊎◌, Some, None, IfSome}
-use Rattle.iam_text.specs.declared.moment.Moment.{Moment}
 use Rattle.iam_names.specs.declared.caller.Caller.{Caller}
 use Rattle.iam_outer.specs.declared.talk.Step.{Step}
 use Rattle.iam_outer.specs.declared.talk.Step.TheVariants.{Plain, Served, NoClock, NoKeeper, NoMemory}
@@ -18,24 +17,16 @@ use Rattle.iam_office.specs.Asks.{IsRefusedBy, GivesCall, AsksRead, AsksWrite}
 use Rattle.iam_office.specs.Office.{JudgedAlone, StoredAlone}
 use Rattle.iam_office.specs.Turns.{Turn}
 
--- a read is answered in this state, whose number is shown, and adds nothing
-abbrev pub ReadReplied : Tables → Message → ℕ → Moment → List ℕ → List Entry → Type 0
-ReadReplied now message number moment reply gain =
-    (caller : Caller) × (ask : Ask) × AsksRead message caller ask
-    × (gain ≡ []) × (number ≡ now.org.changes) × (reply ≡ served_reply number moment (answer_of now ask caller moment))
-
--- a write is judged in this state, and is added where it is accepted
-abbrev pub WriteReplied : Tables → Message → ℕ → Moment → List ℕ → List Entry → Type 0
-WriteReplied now message number moment reply gain =
-    (entry : Entry) × AsksWrite message entry × (entry.moment ≡ moment)
-    × ((value : Answer) × JudgedAlone now entry number value gain × (reply ≡ served_reply number moment value))
-
--- The message comes to this step and this reply in this state, and the history gains this. At a fault of the clock, and at one of the keeper,
--- which comes only to an entry that is accepted, nothing is gained.
+-- The message comes to this step and this reply in this state, and the history gains this. A read is answered in this state, whose number is
+-- shown; a write is judged in it, and is gained where it is accepted. At a fault of the clock, and at one of the keeper, which comes only to an
+-- entry that is accepted, nothing is gained.
 unfoldable pub Replied : Tables → Message → Step → List ℕ → List Entry → Type 0
 Replied now message Plain reply gain = IsRefusedBy message reply × (gain ≡ [])
 Replied now message (Served number moment) reply gain =
-    ReadReplied now message number moment reply gain ⊎ WriteReplied now message number moment reply gain
+    ((caller : Caller) × (ask : Ask) × AsksRead message caller ask
+    × (gain ≡ []) × (number ≡ now.org.changes) × (reply ≡ served_reply number moment (answer_of now ask caller moment)))
+    ⊎ ((entry : Entry) × AsksWrite message entry × (entry.moment ≡ moment)
+    × ((value : Answer) × JudgedAlone now entry number value gain × (reply ≡ served_reply number moment value)))
 Replied now message NoClock reply gain = GivesCall message × (reply ≡ plain_reply ClockFault) × (gain ≡ [])
 Replied now message (NoKeeper moment) reply gain =
     (entry : Entry) × AsksWrite message entry × (entry.moment ≡ moment) × (admission now entry ≡ None) × (reply ≡ keeper_reply moment) × (gain ≡ [])

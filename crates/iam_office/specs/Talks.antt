@@ -12,7 +12,8 @@ use Rattle.iam_types.specs.declared.command.Entry.{Entry}
 use Rattle.iam_types.specs.declared.tables.Tables.{Tables}
 use Rattle.iam_law.specs.History.{state}
 use Rattle.iam_json.specs.declared.details.Details.TheVariants.{BadHead}
-use Rattle.iam_wire.specs.Messages.{BeginsWith, EndsAs, at_fault}
+use Rattle.iam_wire.specs.Messages.{BeginsWith}
+use Rattle.iam_wire.specs.Plain.{HasNoPlain}
 use Rattle.iam_answer.specs.Replies.{plain_reply, no_memory_reply}
 use Rattle.iam_office.specs.Accepted.{accepted_in}
 use Rattle.iam_office.specs.Handled.{AppendsPrefix}
@@ -42,14 +43,10 @@ Tells stands accepted alone old new turns =
 
 -- ---- what was written
 
--- all pieces before the last one were taken whole, and the first bytes of the last one
-abbrev pub CutAtTheLast : Option (List ℕ) → Option (List ℕ) → List (List ℕ) → Type 0
-CutAtTheLast before now pieces =
-    (front : List (List ℕ)) × (last : List ℕ) × (n : ℕ) × (pieces ≡ front ++ last ∷ []) × Appends before now (concat front ++ take n last)
-
--- at a write fault the last piece was cut, and else all of them were taken whole
+-- at a write fault all pieces before the last one were taken whole, and the first bytes of the last one; else all of them were
 abbrev pub WroteAt : TalkEnd → Option (List ℕ) → Option (List ℕ) → List (List ℕ) → Type 0
-WroteAt WriteFault before now pieces = CutAtTheLast before now pieces
+WroteAt WriteFault before now pieces =
+    (front : List (List ℕ)) × (last : List ℕ) × (n : ℕ) × (pieces ≡ front ++ last ∷ []) × Appends before now (concat front ++ take n last)
 WroteAt end before now pieces = Appends before now (concat pieces)
 
 -- ---- how it ends
@@ -62,23 +59,17 @@ HadClock steps = All (λ step. step ≢ NoClock) steps
 abbrev pub LostClock : List Step → Type 0
 LostClock steps = (front : List Step) × (steps ≡ front ++ NoClock ∷ []) × HadClock front
 
--- no message is at the front of what is left, or the whole input is too long
-abbrev pub IsFault : List ℕ → List Step → Type 0
-IsFault rest steps = EndsAs rest at_fault ⊎ ((steps ≡ []) × (MOST_BYTES < length rest))
-
--- where the messages end so: what is left of the input, how many were answered, and whether the clock failed
+-- Where the messages end so: what is left of the input, how many were answered, and whether the clock failed. At a fault no message is at the
+-- front of what is left, or the whole input is too long.
 abbrev pub EndsAt : TalkEnd → List ℕ → List Step → Type 0
 EndsAt Done rest steps = (rest ≡ []) × (length steps < MOST_MESSAGES) × HadClock steps
-EndsAt BadFrame rest steps = IsFault rest steps × (length steps < MOST_MESSAGES) × HadClock steps
+EndsAt BadFrame rest steps =
+    (((rest ≢ []) × HasNoPlain rest) ⊎ ((steps ≡ []) × (MOST_BYTES < length rest))) × (length steps < MOST_MESSAGES) × HadClock steps
 EndsAt Enough rest steps = (length steps ≡ MOST_MESSAGES) × HadClock steps
 EndsAt ClockFault rest steps = LostClock steps
 EndsAt WriteFault rest steps = HadClock steps ⊎ LostClock steps
 EndsAt OutOfMemory rest steps = HadClock steps
 EndsAt end rest steps = ⊥
-
--- nothing is written behind the replies
-abbrev pub IsBare : List Step → List (List ℕ) → List Step → Type 0
-IsBare steps tail trace = (tail ≡ []) × (trace ≡ steps)
 
 -- the reply to what is no message is written behind them, with a step of its own
 abbrev pub IsFaultTold : List ℕ → List Step → List (List ℕ) → List Step → Type 0
@@ -88,14 +79,14 @@ IsFaultTold rest steps tail trace = EndsAt BadFrame rest steps × (tail ≡ plai
 abbrev pub IsMemoryTold : List ℕ → List Step → List (List ℕ) → List Step → Type 0
 IsMemoryTold rest steps tail trace = EndsAt OutOfMemory rest steps × (tail ≡ no_memory_reply ∷ []) × (trace ≡ steps)
 
--- how a conversation ends so, what is written behind its replies, and its trace
+-- How a conversation ends so, what is written behind its replies, and its trace: nothing, but where it says why it ends.
 abbrev pub Closes : TalkEnd → List ℕ → List Step → List (List ℕ) → List Step → Type 0
 Closes BadFrame rest steps tail trace = IsFaultTold rest steps tail trace
 Closes OutOfMemory rest steps tail trace = IsMemoryTold rest steps tail trace
 Closes WriteFault rest steps tail trace =
-    (EndsAt WriteFault rest steps × IsBare steps tail trace) ⊎ (IsMemoryTold rest steps tail trace ⊎ IsFaultTold rest steps tail trace)
-Closes ReadFault rest steps tail trace = (steps ≡ []) × IsBare steps tail trace
-Closes end rest steps tail trace = EndsAt end rest steps × IsBare steps tail trace
+    (EndsAt WriteFault rest steps × (tail ≡ []) × (trace ≡ steps)) ⊎ (IsMemoryTold rest steps tail trace ⊎ IsFaultTold rest steps tail trace)
+Closes ReadFault rest steps tail trace = (steps ≡ []) × (tail ≡ []) × (trace ≡ steps)
+Closes end rest steps tail trace = EndsAt end rest steps × (tail ≡ []) × (trace ≡ steps)
 
 -- ---- the whole
 

@@ -36,9 +36,6 @@ moments_of (NoKeeper moment) = moment ∷ []
 moments_of (NoMemory stored (Some moment)) = moment ∷ []
 moments_of (NoMemory stored None) = []
 
-abbrev pub all_moments : List Step → List Moment
-all_moments steps = flat_map moments_of steps
-
 abbrev pub keeper_faults_of : Step → ℕ
 keeper_faults_of (NoKeeper moment) = 1
 keeper_faults_of step = 0
@@ -50,10 +47,7 @@ abbrev pub clock_faults_of : Step → ℕ
 clock_faults_of NoClock = 1
 clock_faults_of step = 0
 
-abbrev pub all_clock_faults : List Step → ℕ
-all_clock_faults steps = sum_by clock_faults_of steps
-
 -- the moments that a clock gave are those of the steps, and it failed at least as often as they say
 pub record Clocked (given later : Option (List Moment)) (faults now : ℕ) (steps : List Step) : Type 0 where
-  pub moments : AppendsMoments given later (all_moments steps)
-  pub failed : Rise (all_clock_faults steps) faults now
+  pub moments : AppendsMoments given later (flat_map moments_of steps)
+  pub failed : Rise (sum_by clock_faults_of steps) faults now

@@ -66,6 +66,8 @@ pub fn send_all<L: Line>(line: &mut L, bytes: &[u8]) -> Result<(), Failed>
     ensures ok { OnOk result (Appends (L.taken line.old) (L.taken line.new) bytes.now) }
     ensures err { OnErr result (AppendsPrefix (L.taken line.old) (L.taken line.new) bytes.now) }
     ensures cause { HasCause (L.write_faults line.old) (L.write_faults line.new) result }
+    ensures left { L.left line.new ≡ L.left line.old }
+    ensures read_faults { L.read_faults line.new ≡ L.read_faults line.old }
 {
     let mut at = 0;
     while at < bytes.len() {

@@ -15,5 +15,6 @@ mod talking;
 mod telling;
 
 pub use conversing::converse;
+pub use exchange::send_all;
 pub use laws::{all_are_answered, replies_follow};
 pub use office::{FloorStop, Numbered, Office, WriteStop};
