@@ -1,0 +1,250 @@
+// Words, and the plans that they say.
+use iam_plan::{Plan, PlanStop, plan_of};
+use iam_text::{List, OutOfMemory, Text, let_go};
+use iam_types::Opening;
+use std::alloc::Global;
+use std::process::Abort;
+use std::test::Fail;
+
+/// Words with a space between each two, so that two spaces have an empty word between them, and the plan that they say:
+/// its command, its file and the rest, each `-` where it isn't given. `no` stands for words of none of the forms.
+static CASES: [(&str, &str); 60] = [
+    ("apply", "apply - -"),
+    ("apply --db rows.db", "apply rows.db -"),
+    (
+        "apply --org 1000 --domain example.com --customer C01 --admin user:ada@example.com",
+        "apply - 1000 example.com C01 user:ada@example.com",
+    ),
+    (
+        "apply --db a=b --org 1000 --domain example.com --customer C01 --admin user:ada@example.com",
+        "apply a=b 1000 example.com C01 user:ada@example.com",
+    ),
+    (
+        "apply --admin user:ada@example.com --db d --customer C01 --domain example.com --org 1000",
+        "apply d 1000 example.com C01 user:ada@example.com",
+    ),
+    (
+        "apply --domain example.com --org 1000 --admin user:ada@example.com --customer C01 --db d",
+        "apply d 1000 example.com C01 user:ada@example.com",
+    ),
+    (
+        "apply --customer C01 --admin user:ada@example.com --org 1000 --db d --domain example.com",
+        "apply d 1000 example.com C01 user:ada@example.com",
+    ),
+    (
+        "apply --org 0001000 --domain example.com --customer C01 --admin user:ada@example.com",
+        "apply - 1000 example.com C01 user:ada@example.com",
+    ),
+    (
+        "apply --org 9000000000000000000 --domain example.com --customer C01 --admin user:ada@example.com",
+        "apply - 9000000000000000000 example.com C01 user:ada@example.com",
+    ),
+    (
+        "apply --org 9000000000000000001 --domain example.com --customer C01 --admin user:ada@example.com",
+        "no",
+    ),
+    (
+        "apply --org 0 --domain example.com --customer C01 --admin user:ada@example.com",
+        "no",
+    ),
+    (
+        "apply --org 00000000000000001000 --domain example.com --customer C01 --admin user:ada@example.com",
+        "no",
+    ),
+    (
+        "apply --org +1000 --domain example.com --customer C01 --admin user:ada@example.com",
+        "no",
+    ),
+    (
+        "apply --org 1000 --domain example --customer C01 --admin user:ada@example.com",
+        "no",
+    ),
+    (
+        "apply --org 1000 --domain example.com --customer C-01 --admin user:ada@example.com",
+        "no",
+    ),
+    (
+        "apply --org 1000 --domain example.com --customer C01 --admin ada@example.com",
+        "no",
+    ),
+    ("apply --org 1000 --domain example.com --customer C01", "no"),
+    (
+        "apply --domain example.com --customer C01 --admin user:ada@example.com",
+        "no",
+    ),
+    ("apply --db d --org 1000", "no"),
+    ("apply --db d --db d", "no"),
+    ("apply --db d --db e", "no"),
+    ("apply --db", "no"),
+    ("apply --db ", "no"),
+    ("apply  --db d", "no"),
+    ("apply --db -d", "no"),
+    ("apply --db -", "no"),
+    ("apply --db --org", "no"),
+    ("apply --db=d", "no"),
+    ("apply --db=d e", "no"),
+    ("apply --", "no"),
+    ("apply -- d", "no"),
+    ("apply --db d --", "no"),
+    ("apply -d d", "no"),
+    ("apply -db d", "no"),
+    ("apply db d", "no"),
+    ("apply --Db d", "no"),
+    ("apply --d d", "no"),
+    ("apply --help", "no"),
+    ("apply --help d", "no"),
+    ("apply d", "no"),
+    ("apply --permission d", "no"),
+    (
+        "ask --principal user:bob@example.com --resource //cloudresourcemanager.googleapis.com/organizations/1000 --permission a.b.c",
+        "ask - user:bob@example.com organizations/1000 a.b.c",
+    ),
+    (
+        "ask --permission x/y --db d --resource //cloudresourcemanager.googleapis.com/organizations/1000 --principal bob@example.com",
+        "ask d user:bob@example.com organizations/1000 x/y",
+    ),
+    (
+        "ask --resource //cloudresourcemanager.googleapis.com/organizations/7 --permission p --principal anonymous",
+        "ask - anonymous organizations/7 p",
+    ),
+    (
+        "ask --principal bob --resource //cloudresourcemanager.googleapis.com/organizations/1000 --permission p",
+        "no",
+    ),
+    (
+        "ask --principal group:bob@example.com --resource //cloudresourcemanager.googleapis.com/organizations/1000 --permission p",
+        "no",
+    ),
+    (
+        "ask --principal user:bob@example.com --resource organizations/1000 --permission p",
+        "no",
+    ),
+    (
+        "ask --principal user:bob@example.com --resource //cloudresourcemanager.googleapis.com/organizations/01000 --permission p",
+        "no",
+    ),
+    (
+        "ask --principal user:bob@example.com --resource //storage.googleapis.com/projects/web-prod/buckets/b --permission p",
+        "no",
+    ),
+    (
+        "ask --principal //cloudresourcemanager.googleapis.com/organizations/1000 --resource user:bob@example.com --permission p",
+        "no",
+    ),
+    (
+        "ask --principal user:bob@example.com --resource //cloudresourcemanager.googleapis.com/organizations/1000",
+        "no",
+    ),
+    ("ask --principal user:bob@example.com --permission p", "no"),
+    (
+        "ask --resource //cloudresourcemanager.googleapis.com/organizations/1000 --permission p",
+        "no",
+    ),
+    ("ask", "no"),
+    ("ask --org 1000", "no"),
+    ("generate --count 1", "no"),
+    ("serve --port 8080", "no"),
+    ("Apply", "no"),
+    ("--db d apply", "no"),
+    ("", "no"),
+];
+
+fn words_of(alloc: Global, line: &str) -> Result<List<Text>, OutOfMemory> {
+    let mut words = List::new(alloc);
+    for word in line.split(' ') {
+        words.push(Text::of(alloc, word)?)?;
+    }
+    Ok(words)
+}
+
+fn said_by(alloc: Global, words: &[Text]) -> Result<Option<Plan>, OutOfMemory> {
+    match plan_of(alloc, words) {
+        Ok(plan) => Ok(Some(plan)),
+        Err(PlanStop::Words) => Ok(None),
+        Err(PlanStop::OutOfMemory) => Err(OutOfMemory),
+    }
+}
+
+fn file_of(db: &Option<Text>) -> &str {
+    match db {
+        Some(file) => file.as_str(),
+        None => "-",
+    }
+}
+
+fn apply_text(alloc: Global, db: &Option<Text>, opening: &Opening) -> Result<Text, OutOfMemory> {
+    let admin = opening.admin.text(alloc)?;
+    Ok(Text::from(format!(in alloc;
+        "apply {} {} {} {} {}",
+        file_of(db),
+        opening.number,
+        opening.domain.as_str(),
+        opening.customer.as_str(),
+        admin.as_str()
+    )?))
+}
+
+fn plan_text(alloc: Global, plan: &Plan) -> Result<Text, OutOfMemory> {
+    match plan {
+        Plan::Apply {
+            db,
+            opening: Some(opening),
+        } => apply_text(alloc, db, opening),
+        Plan::Apply { db, opening: None } => {
+            Ok(Text::from(format!(in alloc; "apply {} -", file_of(db))?))
+        }
+        Plan::Ask {
+            db,
+            principal,
+            resource,
+            permission,
+        } => {
+            let principal = principal.text(alloc)?;
+            let resource = resource.text(alloc)?;
+            Ok(Text::from(format!(in alloc;
+                "ask {} {} {} {}",
+                file_of(db),
+                principal.as_str(),
+                resource.as_str(),
+                permission.as_str()
+            )?))
+        }
+    }
+}
+
+fn text_of(alloc: Global, words: &[Text]) -> Result<Text, OutOfMemory> {
+    match said_by(alloc, words)? {
+        Some(plan) => {
+            let text = plan_text(alloc, &plan);
+            let_go(plan);
+            text
+        }
+        None => Text::of(alloc, "no"),
+    }
+}
+
+fn assert_said(
+    rt: &impl Abort,
+    alloc: Global,
+    line: &str,
+    wanted: &str,
+) -> Result<(), OutOfMemory> {
+    let words = words_of(alloc, line)?;
+    assert_eq!(rt; text_of(alloc, words.as_slice())?.as_str(), wanted);
+    Ok(())
+}
+
+#[test]
+fn what_words_say(rt: HostRuntime) -> Result<(), Fail> {
+    for (line, wanted) in &CASES {
+        assert_said(&rt, rt.alloc(), line, wanted)?;
+    }
+    Ok(())
+}
+
+#[test]
+fn no_words_are_no_plan(rt: HostRuntime) -> Result<(), Fail> {
+    let words: List<Text> = List::new(rt.alloc());
+    assert_eq!(rt; text_of(rt.alloc(), words.as_slice())?.as_str(), "no");
+    Ok(())
+}
