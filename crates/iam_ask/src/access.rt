@@ -1,10 +1,11 @@
 // Access to a node by its name, of a permission by its text.
 ghost use Rattle.std.specs.Prelude.{◌≡◌, [], IfOk, IsTrue, string_bytes};
-ghost use Rattle.iam_model.specs.Catalogue.{is_permission as has_permission};
+ghost use Rattle.iam_model.specs.Catalogue.{is_permission};
 ghost use Rattle.iam_model.specs.Nodes.{exists};
-ghost use Rattle.iam_law.specs.Asked.{query_on as the_query};
-ghost use Rattle.iam_law.specs.Decide.{decide as decision_of};
-ghost use Rattle.iam_ask.specs.Access.{access, access_at as the_access, access_line, words_of as the_words};
+ghost use Rattle.iam_law.specs.Asked as asked_spec;
+ghost use Rattle.iam_law.specs.Decide.{decide};
+ghost use Rattle.iam_ask.specs.Access as access_spec;
+ghost use Rattle.iam_ask.specs.Access.{access, access_line};
 
 use crate::words::words_of;
 use iam_judge::{Index, resource_facts_of};
@@ -14,7 +15,7 @@ use iam_text::{List, Moment, OutOfMemory, Text};
 use std::alloc::Global;
 
 fn is_known(catalogue: &Catalogue, text: &str) -> bool
-    ensures { result ≡ has_permission text.now }
+    ensures { result ≡ is_permission text.now }
 {
     catalogue
         .permissions()
@@ -29,7 +30,7 @@ fn query_on(
     permission: PermissionName,
     node: NodeId,
 ) -> Result<Query, OutOfMemory>
-    ensures { IfOk result (λ query. query ≡ the_query caller.now moment [] permission node) }
+    ensures { IfOk result (λ query. query ≡ asked_spec.query_on caller.now moment [] permission node) }
 {
     Ok(Query {
         caller: copy_caller(caller)?,
@@ -50,8 +51,8 @@ fn decided(
     node: NodeId,
 ) -> Result<String, OutOfMemory>
     requires node { IsTrue (exists index.now node) }
-    requires permission { IsTrue (has_permission permission) }
-    ensures { IfOk result (λ text. string_bytes text ≡ the_words (decision_of index.now (the_query caller.now moment [] permission node))) }
+    requires permission { IsTrue (is_permission permission) }
+    ensures { IfOk result (λ text. string_bytes text ≡ access_spec.words_of (decide index.now (asked_spec.query_on caller.now moment [] permission node))) }
 {
     let query = query_on(alloc, caller, moment, permission, node)?;
     let decision = index.decision(alloc, &query)?;
@@ -67,7 +68,7 @@ fn access_at(
     node: NodeId,
 ) -> Result<String, OutOfMemory>
     requires { IsTrue (exists index.now node) }
-    ensures { IfOk result (λ text. string_bytes text ≡ the_access index.now caller.now moment permission.now node) }
+    ensures { IfOk result (λ text. string_bytes text ≡ access_spec.access_at index.now caller.now moment permission.now node) }
 {
     if !is_known(index.catalogue(), permission) {
         return Ok(String::from_str(alloc, "PERMISSION_UNKNOWN")?);

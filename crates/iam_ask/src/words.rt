@@ -2,7 +2,7 @@
 ghost use Rattle.std.specs.Prelude.{◌≡◌, ◌++◌, IfOk, codes, string_bytes};
 ghost use Rattle.std.specs.Fmt.{decimal};
 ghost use Rattle.iam_names.specs.Node.{node_id_text};
-ghost use Rattle.iam_ask.specs.Access.{words_of as the_words};
+ghost use Rattle.iam_ask.specs.Access as spec;
 
 use iam_names::NodeId;
 use iam_tables::Decision;
@@ -44,7 +44,7 @@ fn not_granted(alloc: Global) -> Result<String, OutOfMemory>
 
 /// The decision, and what decided.
 pub fn words_of(alloc: Global, decision: &Decision) -> Result<String, OutOfMemory>
-    ensures { IfOk result (λ text. string_bytes text ≡ the_words decision.now) }
+    ensures { IfOk result (λ text. string_bytes text ≡ spec.words_of decision.now) }
 {
     match decision {
         Decision::Allowed { node, place } => allowed(alloc, *node, *place),

@@ -1,4 +1,1 @@
 pub mod Endings
-pub mod Openings
-pub mod Options
-pub mod Plans

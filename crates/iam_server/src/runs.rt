@@ -1,26 +1,28 @@
 // One run of the program.
-ghost use Rattle.std.specs.Prelude.{◌≡◌, ◌⊎◌, [], IfSome};
-ghost use Rattle.std.specs.declared.option.Option.{Option as Opt};
+ghost use Rattle.std.specs.Prelude.{◌≡◌, ◌⊎◌, [], ℕ, List as Items, IfSome, sum_by};
+ghost use Rattle.std.specs.declared.option.Option.{Option as Maybe};
 ghost use Rattle.iam_model.specs.Opening.{IsOpening};
-ghost use Rattle.iam_outer.specs.Causes.{Rose};
-ghost use Rattle.iam_office.specs.Turns.{Clocked, Rise, all_keeper_faults};
+ghost use Rattle.iam_office.specs.Turns.{Clocked, Rise, all_keeper_faults, clock_faults_of};
+ghost use Rattle.iam_plan.specs.Plan.{IsPlan};
+ghost use Rattle.iam_plan.specs.declared.plan.Plan.{Plan};
 ghost use Rattle.iam_rows.specs.Kept.{KeepsTables};
-ghost use Rattle.iam_types.specs.declared.tables.Opening.{Opening as AnOpening};
-ghost use Rattle.iam_server.specs.Plan.{IsPlan};
-ghost use Rattle.iam_server.specs.Run.{status_of as its_status, TalkedFrom, TalkedOpened, EndsUnread, EndsUnopened};
-ghost use Rattle.iam_server.specs.declared.plan.Plan.{Plan};
+ghost use Rattle.iam_types.specs.declared.tables.Opening.{Opening};
+ghost use Rattle.iam_server.specs.Run as spec;
+ghost use Rattle.iam_server.specs.Run.{CameTo, EndsUnread, EndsWithCause, TalkedFrom, outside_at};
 
-use crate::plan::{Plan, PlanStop, plan_of};
+use crate::asking::{Access, ask};
+use crate::opening::{opened, without_talk};
 use crate::{RunEnd, Status};
 use iam_judge::Index;
-use iam_keeping::{OpenStop, open};
 use iam_lone::converse_alone;
-use iam_outer::{Clock, Keeper, Line, List, TalkEnd, Text, Zones};
+use iam_outer::{Clock, Keeper, Line, TalkEnd, Text, Zones};
+use iam_plan::{Plan, PlanStop, openings_are_formed, plan_of};
 use iam_tables::{Catalogue, Opening};
+use iam_text::let_go;
 use std::alloc::Global;
 
 fn status_of(end: TalkEnd) -> Status
-    ensures { result ≡ its_status end }
+    ensures { result ≡ spec.status_of end }
 {
     match end {
         TalkEnd::Done => Status::Done,
@@ -34,25 +36,6 @@ fn status_of(end: TalkEnd) -> Status
     }
 }
 
-fn opening_of(plan: Plan) -> Option<Opening>
-    ensures { plan ≡ Plan.Apply result }
-{
-    match plan {
-        Plan::Apply { opening } => opening,
-    }
-}
-
-// A run that ended before its conversation.
-fn early(alloc: Global, status: Status) -> RunEnd
-    ensures status { result.status ≡ status }
-    ensures trace { result.trace ≡ [] }
-{
-    RunEnd {
-        status,
-        trace: List::new(alloc),
-    }
-}
-
 // The conversation over the line, from the index's tables on, which are the keeper's.
 fn talk_over<L: Line, C: Clock, P: Keeper>(
     alloc: Global,
@@ -62,12 +45,10 @@ fn talk_over<L: Line, C: Clock, P: Keeper>(
     clock: &mut C,
 ) -> RunEnd
     requires { KeepsTables (P.rows keeper.old) index }
-    ensures ran { TalkedFrom index (P.rows keeper.new) (L.left line.old) (L.taken line.old) (L.taken line.new) result.status result.trace }
+    ensures talked { TalkedFrom index (P.rows keeper.new) (L.left line.old) (L.taken line.old) (L.taken line.new) result.status result.trace }
+    ensures causes { EndsWithCause result.status (P.keeper_faults keeper.old) (P.keeper_faults keeper.new) (L.read_faults line.old) (L.read_faults line.new) (L.write_faults line.old) (L.write_faults line.new) (C.clock_faults clock.old) (C.clock_faults clock.new) }
     ensures faults { Rise (all_keeper_faults result.trace) (P.keeper_faults keeper.old) (P.keeper_faults keeper.new) }
     ensures clock { Clocked (C.given clock.old) (C.given clock.new) (C.clock_faults clock.old) (C.clock_faults clock.new) result.trace }
-    ensures read_fault { result.status ≡ Status.ReadFault → Rose (L.read_faults line.old) (L.read_faults line.new) }
-    ensures write_fault { result.status ≡ Status.WriteFault → Rose (L.write_faults line.old) (L.write_faults line.new) }
-    ensures clock_fault { result.status ≡ Status.ClockFault → Rose (C.clock_faults clock.old) (C.clock_faults clock.new) }
 {
     let talk = converse_alone(alloc, index, keeper, line, clock);
     RunEnd {
@@ -87,29 +68,64 @@ fn apply<L: Line, C: Clock, P: Keeper>(
     zones: Zones,
 ) -> RunEnd
     requires { IfSome opening IsOpening }
-    ensures ran { (EndsUnopened opening (P.rows keeper.old) (P.rows keeper.new) result.status × (line.new ≡ line.old) × (clock.new ≡ clock.old) × (result.trace ≡ []))
-        ⊎ TalkedOpened opening (P.rows keeper.old) (P.rows keeper.new) (L.left line.old) (L.taken line.old) (L.taken line.new) result.status result.trace }
-    ensures talks { result.status ≡ Status.Words → ⊥ }
-    ensures keeper { result.status ≡ Status.Keeper → Rose (P.keeper_faults keeper.old) (P.keeper_faults keeper.new) }
+    ensures came { (db : Maybe (Items ℕ)) → CameTo (Plan.Apply db opening)
+        (outside_at L.left L.read_faults L.taken C.given P.rows line.old clock.old keeper.old)
+        (outside_at L.left L.read_faults L.taken C.given P.rows line.new clock.new keeper.new) result.status result.trace }
+    ensures causes { EndsWithCause result.status (P.keeper_faults keeper.old) (P.keeper_faults keeper.new) (L.read_faults line.old) (L.read_faults line.new) (L.write_faults line.old) (L.write_faults line.new) (C.clock_faults clock.old) (C.clock_faults clock.new) }
     ensures faults { Rise (all_keeper_faults result.trace) (P.keeper_faults keeper.old) (P.keeper_faults keeper.new) }
-    ensures clock { Clocked (C.given clock.old) (C.given clock.new) (C.clock_faults clock.old) (C.clock_faults clock.new) result.trace }
-    ensures read_fault { result.status ≡ Status.ReadFault → Rose (L.read_faults line.old) (L.read_faults line.new) }
-    ensures write_fault { result.status ≡ Status.WriteFault → Rose (L.write_faults line.old) (L.write_faults line.new) }
-    ensures clock_fault { result.status ≡ Status.ClockFault → Rose (C.clock_faults clock.old) (C.clock_faults clock.new) }
+    ensures clock { Rise (sum_by clock_faults_of result.trace) (C.clock_faults clock.old) (C.clock_faults clock.new) }
 {
-    match open(alloc, opening, keeper, catalogue, zones) {
+    match opened(alloc, opening, keeper, catalogue, zones) {
         Ok(index) => talk_over(alloc, index, keeper, line, clock),
-        Err(OpenStop::Rows(fault)) => early(alloc, Status::Rows(fault)),
-        Err(OpenStop::Keeper) => early(alloc, Status::Keeper),
-        Err(OpenStop::OutOfMemory) => early(alloc, Status::OutOfMemory),
+        Err(end) => end,
     }
 }
 
-/// Does what the words say over the line.
+// Does what the plan says over the line.
+fn carry_out<L: Line, C: Clock, P: Keeper>(
+    alloc: Global,
+    plan: Plan,
+    line: &mut L,
+    clock: &mut C,
+    keeper: &mut P,
+    catalogue: Catalogue,
+    zones: Zones,
+) -> RunEnd
+    requires { (db : Maybe (Items ℕ)) (opening : Maybe Opening) → plan ≡ Plan.Apply db opening → IfSome opening IsOpening }
+    ensures came { CameTo plan
+        (outside_at L.left L.read_faults L.taken C.given P.rows line.old clock.old keeper.old)
+        (outside_at L.left L.read_faults L.taken C.given P.rows line.new clock.new keeper.new) result.status result.trace }
+    ensures causes { EndsWithCause result.status (P.keeper_faults keeper.old) (P.keeper_faults keeper.new) (L.read_faults line.old) (L.read_faults line.new) (L.write_faults line.old) (L.write_faults line.new) (C.clock_faults clock.old) (C.clock_faults clock.new) }
+    ensures faults { Rise (all_keeper_faults result.trace) (P.keeper_faults keeper.old) (P.keeper_faults keeper.new) }
+    ensures clock { Rise (sum_by clock_faults_of result.trace) (C.clock_faults clock.old) (C.clock_faults clock.new) }
+{
+    match plan {
+        Plan::Apply { db: _db, opening } => {
+            apply(alloc, opening, line, clock, keeper, catalogue, zones)
+        }
+        Plan::Ask {
+            db: _db,
+            principal,
+            resource,
+            permission,
+        } => {
+            let access = Access {
+                principal,
+                resource,
+                permission,
+            };
+            let end = ask(alloc, &access, line, clock, keeper, catalogue, zones);
+            let_go(access);
+            end
+        }
+    }
+}
+
+/// Does what the words say over the line, on the tables of the rows that the keeper has.
 ///
-/// By now that is `apply`: the rows that the keeper has are loaded, or, where it has none, those of the opening are
-/// kept. Then the messages of the line are answered one after another from these tables on, and each accepted change is
-/// kept before it is answered. An opening is passed over where rows are there.
+/// `apply`: where the keeper has no rows, those of the opening are kept first; where rows are there, an opening is passed
+/// over. Then the messages of the line are answered one after another from these tables on, and each accepted change is
+/// kept before it is answered. `ask`: one line says who may do what; nothing is read and nothing kept.
 pub fn run<L: Line, C: Clock, P: Keeper>(
     alloc: Global,
     words: &[Text],
@@ -121,27 +137,17 @@ pub fn run<L: Line, C: Clock, P: Keeper>(
 ) -> RunEnd
     ensures words { result.status ≡ Status.Words → (plan : Plan) → ¬ IsPlan words.now plan }
     ensures ran { (EndsUnread result.status × (line.new ≡ line.old) × (clock.new ≡ clock.old) × (keeper.new ≡ keeper.old) × (result.trace ≡ []))
-        ⊎ ((opening : Opt AnOpening) × IsPlan words.now (Plan.Apply opening)
-        × ((EndsUnopened opening (P.rows keeper.old) (P.rows keeper.new) result.status × (line.new ≡ line.old) × (clock.new ≡ clock.old) × (result.trace ≡ []))
-        ⊎ TalkedOpened opening (P.rows keeper.old) (P.rows keeper.new) (L.left line.old) (L.taken line.old) (L.taken line.new) result.status result.trace)) }
-    ensures keeper { result.status ≡ Status.Keeper → Rose (P.keeper_faults keeper.old) (P.keeper_faults keeper.new) }
+        ⊎ ((plan : Plan) × IsPlan words.now plan × CameTo plan
+        (outside_at L.left L.read_faults L.taken C.given P.rows line.old clock.old keeper.old)
+        (outside_at L.left L.read_faults L.taken C.given P.rows line.new clock.new keeper.new) result.status result.trace) }
+    ensures causes { EndsWithCause result.status (P.keeper_faults keeper.old) (P.keeper_faults keeper.new) (L.read_faults line.old) (L.read_faults line.new) (L.write_faults line.old) (L.write_faults line.new) (C.clock_faults clock.old) (C.clock_faults clock.new) }
     ensures faults { Rise (all_keeper_faults result.trace) (P.keeper_faults keeper.old) (P.keeper_faults keeper.new) }
-    ensures clock { Clocked (C.given clock.old) (C.given clock.new) (C.clock_faults clock.old) (C.clock_faults clock.new) result.trace }
-    ensures read_fault { result.status ≡ Status.ReadFault → Rose (L.read_faults line.old) (L.read_faults line.new) }
-    ensures write_fault { result.status ≡ Status.WriteFault → Rose (L.write_faults line.old) (L.write_faults line.new) }
-    ensures clock_fault { result.status ≡ Status.ClockFault → Rose (C.clock_faults clock.old) (C.clock_faults clock.new) }
+    ensures clock { Rise (sum_by clock_faults_of result.trace) (C.clock_faults clock.old) (C.clock_faults clock.new) }
 {
+    openings_are_formed();
     match plan_of(alloc, words) {
-        Ok(plan) => apply(
-            alloc,
-            opening_of(plan),
-            line,
-            clock,
-            keeper,
-            catalogue,
-            zones,
-        ),
-        Err(PlanStop::Words) => early(alloc, Status::Words),
-        Err(PlanStop::OutOfMemory) => early(alloc, Status::OutOfMemory),
+        Ok(plan) => carry_out(alloc, plan, line, clock, keeper, catalogue, zones),
+        Err(PlanStop::Words) => without_talk(alloc, Status::Words),
+        Err(PlanStop::OutOfMemory) => without_talk(alloc, Status::OutOfMemory),
     }
 }
