@@ -220,7 +220,8 @@ fn output_of(alloc: Global, case: &Run) -> Result<List<u8>, OutOfMemory> {
     Ok(output)
 }
 
-fn keeps(alloc: Global, keeper: &mut MemoryKeeper, kept: &[Kept]) -> Result<bool, OutOfMemory> {
+/// Whether the keeper has these rows.
+pub fn keeps(alloc: Global, keeper: &mut MemoryKeeper, kept: &[Kept]) -> Result<bool, OutOfMemory> {
     let wanted = rows_of(alloc, kept)?;
     Ok(keeper.load() == Ok(wanted))
 }
