@@ -20,6 +20,7 @@ use Rattle.cel_value.specs.declared.value.Outcome.{Outcome}
 use Rattle.cel_value.specs.declared.value.Outcome.TheVariants.{Given, Stopped}
 use Rattle.cel_answers.specs.Escapes.{front, StandsFor}
 use Rattle.cel_answers.specs.Escapes as spec
+use Rattle.cel_types.specs.Sight.{sight_of}
 
 -- with these bytes before it, what the rest of a line stands for is what the whole stands for
 abbrev pub SoFar : List ℕ → List ℕ → List ℕ → Type 0
@@ -70,7 +71,7 @@ no_other r bytes c task line one h = IfOk-weaker r _ _ (λ x k other d. one c ta
 
 -- the answer to a condition is the name of what it comes to
 pub value_said : (c : Context) (text line : List ℕ) (e : Expr) (o : Outcome) (name : List ℕ) → line ≡ name
-    → CelText text e → HasKind Allow e truth → Means (at c) e o → IsTruthOrFault o → IsNamed o name → Answer c Value text line
+    → CelText text e → HasKind (sight_of Allow) e truth → Means (at c) e o → IsTruthOrFault o → IsNamed o name → Answer c Value text line
 value_said c text line e o name same reads kind m is named = subst (λ z. Answer c Value text z) (sym same) (by o m is named)
   where
     by : (o : Outcome) → Means (at c) e o → IsTruthOrFault o → IsNamed o name → Answer c Value text name

@@ -26,6 +26,7 @@ use Rattle.cel_answers.specs.Answers.{Answer, LineAnswer, tree_line, fault_line}
 use Rattle.cel_answers.specs.Escapes as stands
 use Rattle.cel_answers.specs.Escapes.{StandsFor, front}
 use Rattle.cel_answers.specs.Names.{eval_name_of, name_of, truth_name, type_name_of}
+use Rattle.cel_types.specs.Sight.{sight_of}
 
 -- what is known of texts and trees
 pub record Laws : Type 0 where
@@ -61,15 +62,15 @@ module _ (laws : Laws) (c : Context) where
   one_outcome : (t : List ℕ) (e e' : Expr) (o p : Outcome) → CelText t e → CelText t e' → Means (at c) e o → Means (at c) e' p → o ≡ p
   one_outcome t e e' o p h k m n = laws.one_outcome (at c) e o p m (subst (λ z. Means (at c) z p) (laws.one_tree t e' e k h) n)
 
-  no_condition : {A : Type 0} (t : List ℕ) (p q : Place) (e e' : Expr) (f : TypeFault) → p ≡ q → CelText t e → CelText t e' → HasKind p e truth → IsFaultOf q e' f → A
+  no_condition : {A : Type 0} (t : List ℕ) (p q : Place) (e e' : Expr) (f : TypeFault) → p ≡ q → CelText t e → CelText t e' → HasKind (sight_of p) e truth → IsFaultOf (sight_of q) e' f → A
   no_condition t p q e e' f is h k has fails =
-      absurd (laws.no_fault p e f has (subst (λ z. IsFaultOf z e f) (sym is) (subst (λ z. IsFaultOf q z f) (laws.one_tree t e' e k h) fails)))
+      absurd (laws.no_fault (sight_of p) e f has (subst (λ z. IsFaultOf (sight_of z) e f) (sym is) (subst (λ z. IsFaultOf (sight_of q) z f) (laws.one_tree t e' e k h) fails)))
 
-  one_type_fault : (t : List ℕ) (p q : Place) (e e' : Expr) (f g : TypeFault) → p ≡ q → CelText t e → CelText t e' → IsFaultOf p e f → IsFaultOf q e' g
+  one_type_fault : (t : List ℕ) (p q : Place) (e e' : Expr) (f g : TypeFault) → p ≡ q → CelText t e → CelText t e' → IsFaultOf (sight_of p) e f → IsFaultOf (sight_of q) e' g
       → fault_line (type_name_of f.kind) f.offset ≡ fault_line (type_name_of g.kind) g.offset
   one_type_fault t p q e e' f g is h k fails also =
       ap (λ (z : TypeFault). fault_line (type_name_of z.kind) z.offset)
-      (laws.one_type_fault p e f g fails (subst (λ z. IsFaultOf z e g) (sym is) (subst (λ z. IsFaultOf q z g) (laws.one_tree t e' e k h) also)))
+      (laws.one_type_fault (sight_of p) e f g fails (subst (λ z. IsFaultOf (sight_of z) e g) (sym is) (subst (λ z. IsFaultOf (sight_of q) z g) (laws.one_tree t e' e k h) also)))
 
 one_answer : Laws → {c : Context} {task : Task} {text answer : List ℕ} → Answer c task text answer → (other : List ℕ) → Answer c task text other → answer ≡ other
 one_answer laws (spec.tree {text = t} {e = e} h) other (spec.tree {e = e'} k) = ap tree_line (laws.one_tree t e e' h k)

@@ -24,6 +24,7 @@ use Rattle.cel_answers.specs.declared.task.Task.TheVariants.{Read, Check, Value}
 use Rattle.cel_answers.specs.Escapes.{StandsFor}
 use Rattle.cel_answers.specs.Names.{eval_name_of, name_of, truth_name, type_name_of}
 use Rattle.cel_answers.specs.Task.{place_of}
+use Rattle.cel_types.specs.Sight.{sight_of}
 
 -- `OK ` and a tree as it is printed
 abbrev pub tree_line : Expr → List ℕ
@@ -41,14 +42,14 @@ IsNamed (Stopped fault) name = name ≡ eval_name_of fault
 -- the answer to a text, of which this is asked, in a context
 pub data Answer (c : Context) : Task → List ℕ → List ℕ → Type 0 where
   tree : {text : List ℕ} {e : Expr} → CelText text e → Answer c Read text (tree_line e)
-  condition : {place : Place} {text : List ℕ} {e : Expr} → CelText text e → HasKind place e kind.truth
+  condition : {place : Place} {text : List ℕ} {e : Expr} → CelText text e → HasKind (sight_of place) e kind.truth
       → Answer c (Check place) text (tree_line e)
-  truth : {text : List ℕ} {e : Expr} {b : Bool} → CelText text e → HasKind Allow e kind.truth → Means (at c) e (Given (value.Bool b))
+  truth : {text : List ℕ} {e : Expr} {b : Bool} → CelText text e → HasKind (sight_of Allow) e kind.truth → Means (at c) e (Given (value.Bool b))
       → Answer c Value text (truth_name b)
-  stopped : {text : List ℕ} {e : Expr} {fault : EvalFault} → CelText text e → HasKind Allow e kind.truth → Means (at c) e (Stopped fault)
+  stopped : {text : List ℕ} {e : Expr} {fault : EvalFault} → CelText text e → HasKind (sight_of Allow) e kind.truth → Means (at c) e (Stopped fault)
       → Answer c Value text (eval_name_of fault)
   type_fault : {task : Task} {place : Place} {text : List ℕ} {e : Expr} {fault : TypeFault} → place_of task ≡ Some place → CelText text e
-      → IsFaultOf place e fault → Answer c task text (fault_line (type_name_of fault.kind) fault.offset)
+      → IsFaultOf (sight_of place) e fault → Answer c task text (fault_line (type_name_of fault.kind) fault.offset)
   fault : {task : Task} {text : List ℕ} {fault : SyntaxFault} → Faults text fault
       → Answer c task text (fault_line (name_of fault.kind) fault.offset)
 

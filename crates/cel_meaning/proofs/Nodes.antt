@@ -1,10 +1,11 @@
 -- What a node comes to, from what is read of it and of the nodes below it.
-use Rattle.std.proofs.Common.{◌≡◌, ℕ, ℤ, Bool, true, false, cond, List, [], ◌∷◌, map, Result, Ok, Err, Option, refl, sym, ap, ◌∙◌, subst}
+use Rattle.std.proofs.Common.{◌≡◌, ℕ, ℤ, Bool, true, false, cond, List, [], ◌∷◌, map, Result, Ok, Err, Option, Some, refl, sym, ap, ◌∙◌, subst}
 use Rattle.cel_tree.specs.declared.tree.Expr.{Expr, out-Expr}
 use Rattle.cel_tree.specs.declared.tree.Expr.TheOpen.{Expr-F}
 use Rattle.cel_tree.specs.declared.tree.Expr.TheVariants as tree
 use Rattle.cel_tree.specs.declared.tree.Expr.TheVariants.{outs-Bool, outs-Int, outs-Str, outs-Name, outs-Select, outs-Call, outs-Method, outs-Many, outs-Not, outs-Neg, outs-Two, outs-Pick}
 use Rattle.cel_tree.specs.declared.tree.Op.{Op}
+use Rattle.cel_tree.specs.declared.tree.Op.TheVariants as op
 use Rattle.cel_tree.specs.declared.tree.Span.{Span}
 use Rattle.cel_value.specs.declared.value.EvalFault.{EvalFault}
 use Rattle.cel_value.specs.declared.value.Outcome.{Outcome}
@@ -14,12 +15,14 @@ use Rattle.cel_value.specs.declared.value.Value.TheVariants as value
 use Rattle.cel_types.specs.declared.form.Attribute.{Attribute}
 use Rattle.cel_types.specs.declared.form.Form.{Form}
 use Rattle.cel_types.specs.Forms.{attribute_of, form_of, is_whole}
+use Rattle.cel_types.specs.Heads as head
+use Rattle.cel_types.specs.Heads.{Head}
 use Rattle.cel_types.specs.Setting.{Setting}
 use Rattle.cel_meaning.specs.declared.stop.Stop.{Stop}
 use Rattle.cel_meaning.specs.declared.stop.Stop.TheVariants as stop
-use Rattle.cel_meaning.specs.Apply.{choice, choice_layer, negation, no_outcome, on_one, opposite, two_outcome}
-use Rattle.cel_meaning.specs.OutcomeOf.{all_values, called, list_of, node_outcome, outcome_of, selected, with_first}
-use Rattle.cel_meaning.specs.Results.{Gathers, Gives, behind, picked}
+use Rattle.cel_meaning.specs.Apply.{apply, choice, choice_layer, negation, no_outcome, opposite}
+use Rattle.cel_meaning.specs.OutcomeOf.{all_values, headed, node_outcome, outcome_of, two_outcome, with_first}
+use Rattle.cel_meaning.specs.Results.{Gathers, Gives, behind, called, list_of, on_one, on_two, picked, selected, two_sides}
 use Rattle.cel_meaning.proofs.Steps.{outcome_step}
 
 -- a node by its layer
@@ -117,11 +120,15 @@ method_stops s e b g span name t es (stop.Fault fault) is p q w h =
     ∙ ap (λ z. called s (form_of (out-Expr e)) es (all_values (z ∷ map (outcome_of s) es))) h
 method_stops s e b g span name t es stop.OutOfMemory is p q w h = tt
 
+list_headed : (s : Setting) (all : Result (List Value) EvalFault) → headed s (Some head.list) all ≡ list_of all
+list_headed s (Ok vs) = refl
+list_headed s (Err fault) = refl
+
 pub many_is : (s : Setting) (e : Expr) (span : Span) (es gs : List Expr) (r : Result Value Stop) → e ≡ tree.Many span es → gs ≡ es
     → Gives (list_of (all_values (map (outcome_of s) gs))) r → Gives (outcome_of s e) r
 many_is s e span es gs r is p h =
     moved (outcome_of s e) (list_of (all_values (map (outcome_of s) gs))) r
-    (at_layer s e _ (ap out-Expr is ∙ outs-Many span es) ∙ ap (λ z. list_of (all_values (map (outcome_of s) z))) (sym p)) h
+    (at_layer s e _ (ap out-Expr is ∙ outs-Many span es) ∙ ap (λ z. headed s (Some head.list) (all_values (map (outcome_of s) z))) (sym p) ∙ list_headed s (all_values (map (outcome_of s) gs))) h
 
 -- a call or a list whose parts are gathered, or stop
 pub called_from : (s : Setting) (form : Option Form) (arguments : List Expr) (all : Result (List Value) EvalFault) (vs : List Value) (r : Result Value Stop) → Gathers all (Ok vs) → Gives (called s form arguments (Ok vs)) r → Gives (called s form arguments all) r
@@ -140,24 +147,54 @@ list_stops all stop.OutOfMemory h = tt
 
 -- ---- operators
 
+one_headed : (s : Setting) (h : Head) (f : Value → Outcome) (o : Outcome) → ((v : Value) → apply s h (v ∷ []) ≡ f v) → headed s (Some h) (all_values (o ∷ [])) ≡ on_one f o
+one_headed s h f (Given v) same = same v
+one_headed s h f (Stopped fault) same = refl
+
+two_headed : (s : Setting) (o : Op) (x y : Outcome) → headed s (Some (head.two o)) (all_values (x ∷ y ∷ [])) ≡ on_two o x y
+two_headed s o (Stopped fault) y = refl
+two_headed s o (Given v) (Stopped fault) = refl
+two_headed s o (Given v) (Given w) = refl
+
+sides_same : (s : Setting) (o : Op) (x y : Outcome) → two_outcome s o x y ≡ two_sides o x y
+sides_same s op.And x y = refl
+sides_same s op.Or x y = refl
+sides_same s op.Lt x y = two_headed s op.Lt x y
+sides_same s op.Le x y = two_headed s op.Le x y
+sides_same s op.Gt x y = two_headed s op.Gt x y
+sides_same s op.Ge x y = two_headed s op.Ge x y
+sides_same s op.Eq x y = two_headed s op.Eq x y
+sides_same s op.Ne x y = two_headed s op.Ne x y
+sides_same s op.In x y = two_headed s op.In x y
+sides_same s op.Add x y = two_headed s op.Add x y
+sides_same s op.Sub x y = two_headed s op.Sub x y
+sides_same s op.Mul x y = two_headed s op.Mul x y
+sides_same s op.Div x y = two_headed s op.Div x y
+sides_same s op.Rem x y = two_headed s op.Rem x y
+
 pub not_is : (s : Setting) (e a g : Expr) (span : Span) (r : Result Value Stop) → e ≡ tree.Not span a → g ≡ a → Gives (on_one negation (outcome_of s g)) r → Gives (outcome_of s e) r
 not_is s e a g span r is p h =
     moved (outcome_of s e) (on_one negation (outcome_of s g)) r
-    (at_layer s e _ (ap out-Expr is ∙ outs-Not span a) ∙ ap (λ z. on_one negation (outcome_of s z)) (sym p)) h
+    (at_layer s e _ (ap out-Expr is ∙ outs-Not span a)
+    ∙ ap (λ z. headed s (Some head.not) (all_values (outcome_of s z ∷ []))) (sym p)
+    ∙ one_headed s head.not negation (outcome_of s g) (λ v. refl)) h
 
 pub neg_is : (s : Setting) (e a g : Expr) (span : Span) (r : Result Value Stop) → e ≡ tree.Neg span a → g ≡ a → Gives (on_one opposite (outcome_of s g)) r → Gives (outcome_of s e) r
 neg_is s e a g span r is p h =
     moved (outcome_of s e) (on_one opposite (outcome_of s g)) r
-    (at_layer s e _ (ap out-Expr is ∙ outs-Neg span a) ∙ ap (λ z. on_one opposite (outcome_of s z)) (sym p)) h
+    (at_layer s e _ (ap out-Expr is ∙ outs-Neg span a)
+    ∙ ap (λ z. headed s (Some head.negative) (all_values (outcome_of s z ∷ []))) (sym p)
+    ∙ one_headed s head.negative opposite (outcome_of s g) (λ v. refl)) h
 
-pub two_is : (s : Setting) (e a b g h : Expr) (span : Span) (op : Op) (left : Outcome) (r : Result Value Stop) → e ≡ tree.Two span op a b → g ≡ a → h ≡ b → left ≡ outcome_of s g
-    → Gives (two_outcome op left (outcome_of s h)) r → Gives (outcome_of s e) r
-two_is s e a b g h span op left r is p q l given =
-    moved (outcome_of s e) (two_outcome op left (outcome_of s h)) r
-    (at_layer s e _ (ap out-Expr is ∙ outs-Two span op a b)
-    ∙ ap (λ z. two_outcome op (outcome_of s z) (outcome_of s b)) (sym p)
-    ∙ ap (λ z. two_outcome op z (outcome_of s b)) (sym l)
-    ∙ ap (λ z. two_outcome op left (outcome_of s z)) (sym q)) given
+pub two_is : (s : Setting) (e a b g h : Expr) (span : Span) (o : Op) (left : Outcome) (r : Result Value Stop) → e ≡ tree.Two span o a b → g ≡ a → h ≡ b → left ≡ outcome_of s g
+    → Gives (two_sides o left (outcome_of s h)) r → Gives (outcome_of s e) r
+two_is s e a b g h span o left r is p q l given =
+    moved (outcome_of s e) (two_sides o left (outcome_of s h)) r
+    (at_layer s e _ (ap out-Expr is ∙ outs-Two span o a b)
+    ∙ ap (λ z. two_outcome s o (outcome_of s z) (outcome_of s b)) (sym p)
+    ∙ ap (λ z. two_outcome s o z (outcome_of s b)) (sym l)
+    ∙ ap (λ z. two_outcome s o left (outcome_of s z)) (sym q)
+    ∙ sides_same s o left (outcome_of s h)) given
 
 pick_layer : (s : Setting) (e d a b g h i : Expr) (span : Span) → e ≡ tree.Pick span d a b → g ≡ d → h ≡ a → i ≡ b
     → outcome_of s e ≡ choice (outcome_of s g) (outcome_of s h) (outcome_of s i)

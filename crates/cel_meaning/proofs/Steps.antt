@@ -6,13 +6,12 @@ use Rattle.cel_tree.specs.Tree.{size}
 use Rattle.cel_tree.specs.declared.tree.Expr.{Expr, out-Expr}
 use Rattle.cel_tree.specs.declared.tree.Expr.TheOpen.{Expr-F}
 use Rattle.cel_value.specs.declared.value.Outcome.{Outcome}
-use Rattle.cel_types.specs.Arguments.{arguments_of}
-use Rattle.cel_types.specs.Forms.{form_of}
+use Rattle.cel_types.specs.Heads.{head_of}
 use Rattle.cel_types.specs.HasKind.{children, parts}
 use Rattle.cel_types.specs.Setting.{Setting}
 use Rattle.cel_types.proofs.Smaller.{one_at_least, smaller}
-use Rattle.cel_meaning.specs.Apply.{choice, negation, on_one, opposite, two_outcome}
-use Rattle.cel_meaning.specs.OutcomeOf.{all_values, called, list_of, node_outcome, outcome_of, outcome_within}
+use Rattle.cel_meaning.specs.Apply.{choice}
+use Rattle.cel_meaning.specs.OutcomeOf.{all_values, headed, node_outcome, outcome_of, outcome_within, strict_outcome, two_outcome}
 
 -- two functions agree on some trees
 abbrev Agree : (Expr → Outcome) → (Expr → Outcome) → Expr → Type 0
@@ -23,9 +22,8 @@ mapped f g [] all = refl
 mapped f g (e ∷ es) all =
     ap (λ z. z ∷ map f es) (All-head (Agree f g) e es all) ∙ ap (λ z. g e ∷ z) (mapped f g es (All-tail (Agree f g) e es all))
 
-called_same : (s : Setting) (f g : Expr → Outcome) (x : Expr-F Expr) → All (Agree f g) (parts x)
-    → called s (form_of x) (arguments_of x) (all_values (map f (parts x))) ≡ called s (form_of x) (arguments_of x) (all_values (map g (parts x)))
-called_same s f g x all = ap (λ z. called s (form_of x) (arguments_of x) (all_values z)) (mapped f g (parts x) all)
+strict_same : (s : Setting) (f g : Expr → Outcome) (x : Expr-F Expr) → All (Agree f g) (parts x) → strict_outcome s f x ≡ strict_outcome s g x
+strict_same s f g x all = ap (λ z. headed s (head_of x) (all_values z)) (mapped f g (parts x) all)
 
 one_same : (h : Outcome → Outcome) (f g : Expr → Outcome) (a : Expr) → All (Agree f g) (a ∷ []) → h (f a) ≡ h (g a)
 one_same h f g a all = ap h (All-head (Agree f g) a [] all)
@@ -40,12 +38,12 @@ node_same s f g (Expr-F.Int span n) all = refl
 node_same s f g (Expr-F.Str span text) all = refl
 node_same s f g (Expr-F.Name span name) all = refl
 node_same s f g (Expr-F.Select span base field) all = refl
-node_same s f g (Expr-F.Call span name arguments) all = called_same s f g (Expr-F.Call span name arguments) all
-node_same s f g (Expr-F.Method span base name arguments) all = called_same s f g (Expr-F.Method span base name arguments) all
-node_same s f g (Expr-F.Many span items) all = ap (λ z. list_of (all_values z)) (mapped f g items all)
-node_same s f g (Expr-F.Not span a) all = one_same (on_one negation) f g a all
-node_same s f g (Expr-F.Neg span a) all = one_same (on_one opposite) f g a all
-node_same s f g (Expr-F.Two span op a b) all = two_same (two_outcome op) f g a b all
+node_same s f g (Expr-F.Call span name arguments) all = strict_same s f g (Expr-F.Call span name arguments) all
+node_same s f g (Expr-F.Method span base name arguments) all = strict_same s f g (Expr-F.Method span base name arguments) all
+node_same s f g (Expr-F.Many span items) all = strict_same s f g (Expr-F.Many span items) all
+node_same s f g (Expr-F.Not span a) all = strict_same s f g (Expr-F.Not span a) all
+node_same s f g (Expr-F.Neg span a) all = strict_same s f g (Expr-F.Neg span a) all
+node_same s f g (Expr-F.Two span op a b) all = two_same (two_outcome s op) f g a b all
 node_same s f g (Expr-F.Pick span d a b) all =
     ap (λ z. choice z (f a) (f b)) (All-head (Agree f g) d (a ∷ b ∷ []) all)
     ∙ two_same (choice (g d)) f g a b (All-tail (Agree f g) d (a ∷ b ∷ []) all)

@@ -1,7 +1,6 @@
 -- What operators, functions and methods come to, applied to values.
 use Rattle.std.specs.Prelude.{ℕ, Bool, not, if◌then◌else◌, Option, Some, None, List, [], ◌∷◌, ◌++◌, map, ℤ, neg_ℤ, ◌+ℤ◌, ◌-ℤ◌, ◌*ℤ◌, nat_eq}
 use Rattle.std.specs.List.{starts_with, ends_with}
-use Rattle.cel_tree.specs.declared.tree.Expr.{Expr}
 use Rattle.cel_tree.specs.declared.tree.Op.{Op}
 use Rattle.cel_tree.specs.declared.tree.Op.TheVariants as op
 use Rattle.cel_value.specs.declared.value.EvalFault.TheVariants.{UnknownTag}
@@ -10,17 +9,14 @@ use Rattle.cel_value.specs.declared.value.Outcome.TheVariants.{Given, Stopped}
 use Rattle.cel_value.specs.declared.value.Value.{Value, out-Value}
 use Rattle.cel_value.specs.declared.value.Value.TheOpen.{Value-F}
 use Rattle.cel_value.specs.declared.value.Value.TheVariants as value
-use Rattle.cel_types.specs.declared.form.Form.{Form}
-use Rattle.cel_types.specs.declared.form.Form.TheVariants as form
 use Rattle.cel_types.specs.declared.form.TimePart.{TimePart}
-use Rattle.cel_types.specs.Arguments.{text_of}
 use Rattle.cel_types.specs.Bounds.{int_outcome, time_outcome, length_outcome, quotient_outcome, remainder_outcome, nanos_of_minutes}
 use Rattle.cel_types.specs.Extract.{extracted}
-use Rattle.cel_types.specs.Means.{conjunction, disjunction, texts_of}
+use Rattle.cel_types.specs.Heads as head
+use Rattle.cel_types.specs.Heads.{Head}
 use Rattle.cel_types.specs.Setting.{Setting}
-use Rattle.cel_types.specs.Tags.{tag_outcome}
+use Rattle.cel_types.specs.Tags.{attribute_outcome, tag_outcome}
 use Rattle.cel_types.specs.TimeText.{timestamp_outcome, duration_outcome}
-use Rattle.cel_types.specs.Zone.{zone_minutes}
 use Rattle.cel_meaning.specs.Dates.{part_outcome}
 use Rattle.cel_meaning.specs.Values.{same_value, is_below, is_in, all_in}
 
@@ -93,22 +89,6 @@ two_values op.Mul v w = product_layer (out-Value v) (out-Value w)
 two_values op.Div v w = quotient_layer (out-Value v) (out-Value w)
 two_values op.Rem v w = remainder_layer (out-Value v) (out-Value w)
 
--- an operator of one side, which stops with it
-abbrev pub on_one : (Value → Outcome) → Outcome → Outcome
-on_one f (Stopped fault) = Stopped fault
-on_one f (Given v) = f v
-
--- an operator of two sides, which stops with the first that does
-abbrev pub on_two : Op → Outcome → Outcome → Outcome
-on_two o (Stopped fault) y = Stopped fault
-on_two o (Given v) (Stopped fault) = Stopped fault
-on_two o (Given v) (Given w) = two_values o v w
-
-abbrev pub two_outcome : Op → Outcome → Outcome → Outcome
-two_outcome op.And x y = conjunction x y
-two_outcome op.Or x y = disjunction x y
-two_outcome o x y = on_two o x y
-
 abbrev pub choice_layer : Value-F Value → Outcome → Outcome → Outcome
 choice_layer (Value-F.Bool b) x y = if b then x else y
 choice_layer _ x y = no_outcome
@@ -117,6 +97,14 @@ choice_layer _ x y = no_outcome
 abbrev pub choice : Outcome → Outcome → Outcome → Outcome
 choice (Stopped fault) x y = Stopped fault
 choice (Given v) x y = choice_layer (out-Value v) x y
+
+abbrev pub of_one : (Value → Outcome) → List Value → Outcome
+of_one f (v ∷ []) = f v
+of_one f _ = no_outcome
+
+abbrev pub of_two : Op → List Value → Outcome
+of_two o (v ∷ w ∷ []) = two_values o v w
+of_two o _ = no_outcome
 
 abbrev pub text_layer : (List ℕ → Outcome) → Value-F Value → Outcome
 text_layer f (Value-F.Str s) = f s
@@ -152,21 +140,32 @@ of_time f (v ∷ []) = time_layer f (out-Value v)
 of_time f (v ∷ zone ∷ []) = time_layer f (out-Value v)
 of_time f _ = no_outcome
 
--- the zone shifts first
-abbrev pub in_zone : TimePart → Option ℤ → ℤ → Outcome
-in_zone part None t = no_outcome
-in_zone part (Some minutes) t = part_outcome part (t +ℤ nanos_of_minutes minutes)
+-- a text, behind which a literal stands that the head has
+abbrev pub of_text_first : (List ℕ → Outcome) → List Value → Outcome
+of_text_first f (v ∷ literal ∷ []) = text_layer f (out-Value v)
+of_text_first f _ = no_outcome
 
--- a function or method of a form, with its arguments and the values of its parts
-abbrev pub apply : Setting → Form → List Expr → List Value → Outcome
-apply s (form.Tag function) arguments vs = tag_outcome s.context function (texts_of arguments)
-apply s form.Modified arguments vs = Given (value.Many (map (λ t. value.Str t) s.context.modified))
-apply s form.Timestamp arguments vs = of_text timestamp_outcome vs
-apply s form.Duration arguments vs = of_text duration_outcome vs
-apply s form.StartsWith arguments vs = of_texts (λ t u. truth (starts_with nat_eq t u)) vs
-apply s form.EndsWith arguments vs = of_texts (λ t u. truth (ends_with nat_eq t u)) vs
-apply s form.Extract arguments vs = of_texts (λ t u. Given (value.Str (extracted t u))) vs
-apply s form.HasOnly arguments vs = has_only vs
-apply s (form.Part part) arguments vs = of_time (part_outcome part) vs
-apply s (form.PartIn part) arguments vs = of_time (in_zone part (zone_minutes (text_of arguments))) vs
-apply s _ arguments vs = no_outcome
+-- the zone shifts first
+abbrev pub shifted_part : TimePart → ℤ → ℤ → Outcome
+shifted_part p minutes t = part_outcome p (t +ℤ nanos_of_minutes minutes)
+
+-- a node of a head, all of whose parts have values
+abbrev pub apply : Setting → Head → List Value → Outcome
+apply s (head.bool b) vs = Given (value.Bool b)
+apply s (head.int n) vs = Given (value.Int n)
+apply s (head.str text) vs = Given (value.Str text)
+apply s (head.attribute a) vs = attribute_outcome s.context a
+apply s (head.tag function key asked) vs = tag_outcome s.context function key asked
+apply s head.modified vs = Given (value.Many (map (λ t. value.Str t) s.context.modified))
+apply s head.timestamp vs = of_text timestamp_outcome vs
+apply s head.duration vs = of_text duration_outcome vs
+apply s head.starts_with vs = of_texts (λ t u. truth (starts_with nat_eq t u)) vs
+apply s head.ends_with vs = of_texts (λ t u. truth (ends_with nat_eq t u)) vs
+apply s (head.extract prefix suffix) vs = of_text_first (λ t. Given (value.Str (extracted prefix suffix t))) vs
+apply s head.has_only vs = has_only vs
+apply s (head.part p minutes) vs = of_time (λ t. shifted_part p minutes t) vs
+apply s head.list vs = Given (value.Many vs)
+apply s head.not vs = of_one negation vs
+apply s head.negative vs = of_one opposite vs
+apply s (head.two o) vs = of_two o vs
+apply s head.pick vs = no_outcome

@@ -3,19 +3,18 @@ use Rattle.std.specs.Prelude.{ℕ, suc, zero, Option, Some, None, List, [], ◌�
 use Rattle.cel_tree.specs.Tree.{size}
 use Rattle.cel_tree.specs.declared.tree.Expr.{Expr, out-Expr}
 use Rattle.cel_tree.specs.declared.tree.Expr.TheOpen.{Expr-F}
+use Rattle.cel_tree.specs.declared.tree.Op.{Op}
+use Rattle.cel_tree.specs.declared.tree.Op.TheVariants as op
 use Rattle.cel_value.specs.declared.value.EvalFault.{EvalFault}
 use Rattle.cel_value.specs.declared.value.Outcome.{Outcome}
 use Rattle.cel_value.specs.declared.value.Outcome.TheVariants.{Given, Stopped}
 use Rattle.cel_value.specs.declared.value.Value.{Value}
-use Rattle.cel_value.specs.declared.value.Value.TheVariants as value
-use Rattle.cel_types.specs.declared.form.Attribute.{Attribute}
-use Rattle.cel_types.specs.declared.form.Form.{Form}
-use Rattle.cel_types.specs.Arguments.{arguments_of}
-use Rattle.cel_types.specs.Forms.{attribute_of, form_of}
+use Rattle.cel_types.specs.Heads as head
+use Rattle.cel_types.specs.Heads.{Head, head_of}
 use Rattle.cel_types.specs.HasKind.{parts}
+use Rattle.cel_types.specs.Means.{conjunction, disjunction}
 use Rattle.cel_types.specs.Setting.{Setting}
-use Rattle.cel_types.specs.Tags.{attribute_outcome}
-use Rattle.cel_meaning.specs.Apply.{apply, choice, negation, no_outcome, on_one, opposite, two_outcome}
+use Rattle.cel_meaning.specs.Apply.{apply, choice, no_outcome}
 
 abbrev pub with_first : Value → Result (List Value) EvalFault → Result (List Value) EvalFault
 with_first v (Ok vs) = Ok (v ∷ vs)
@@ -27,36 +26,34 @@ all_values [] = Ok []
 all_values (Stopped fault ∷ others) = Err fault
 all_values (Given v ∷ others) = with_first v (all_values others)
 
-abbrev pub list_of : Result (List Value) EvalFault → Outcome
-list_of (Err fault) = Stopped fault
-list_of (Ok vs) = Given (value.Many vs)
+-- a node of a head, from the values of its parts or the first fault of one; no tree that has a kind lacks a head
+abbrev pub headed : Setting → Option Head → Result (List Value) EvalFault → Outcome
+headed s h (Err fault) = Stopped fault
+headed s None (Ok vs) = no_outcome
+headed s (Some h) (Ok vs) = apply s h vs
 
-abbrev pub selected : Setting → Option Attribute → Outcome
-selected s None = no_outcome
-selected s (Some attribute) = attribute_outcome s.context attribute
+-- a node all of whose parts are evaluated
+abbrev pub strict_outcome : Setting → (Expr → Outcome) → Expr-F Expr → Outcome
+strict_outcome s below e = headed s (head_of e) (all_values (map below (parts e)))
 
--- a function or method, whose parts are all evaluated
-abbrev pub called : Setting → Option Form → List Expr → Result (List Value) EvalFault → Outcome
-called s form arguments (Err fault) = Stopped fault
-called s None arguments (Ok vs) = no_outcome
-called s (Some form) arguments (Ok vs) = apply s form arguments vs
-
-abbrev pub called_outcome : Setting → (Expr → Outcome) → Expr-F Expr → Outcome
-called_outcome s below e = called s (form_of e) (arguments_of e) (all_values (map below (parts e)))
+abbrev pub two_outcome : Setting → Op → Outcome → Outcome → Outcome
+two_outcome s op.And x y = conjunction x y
+two_outcome s op.Or x y = disjunction x y
+two_outcome s o x y = headed s (Some (head.two o)) (all_values (x ∷ y ∷ []))
 
 -- a node, from what the nodes below it come to
 abbrev pub node_outcome : Setting → (Expr → Outcome) → Expr-F Expr → Outcome
-node_outcome s below (Expr-F.Bool span b) = Given (value.Bool b)
-node_outcome s below (Expr-F.Int span n) = Given (value.Int n)
-node_outcome s below (Expr-F.Str span text) = Given (value.Str text)
-node_outcome s below (Expr-F.Name span name) = no_outcome
-node_outcome s below (Expr-F.Select span base field) = selected s (attribute_of (out-Expr base) field)
-node_outcome s below (Expr-F.Call span name arguments) = called_outcome s below (Expr-F.Call span name arguments)
-node_outcome s below (Expr-F.Method span base name arguments) = called_outcome s below (Expr-F.Method span base name arguments)
-node_outcome s below (Expr-F.Many span items) = list_of (all_values (map below items))
-node_outcome s below (Expr-F.Not span a) = on_one negation (below a)
-node_outcome s below (Expr-F.Neg span a) = on_one opposite (below a)
-node_outcome s below (Expr-F.Two span op a b) = two_outcome op (below a) (below b)
+node_outcome s below (Expr-F.Bool span b) = strict_outcome s below (Expr-F.Bool span b)
+node_outcome s below (Expr-F.Int span n) = strict_outcome s below (Expr-F.Int span n)
+node_outcome s below (Expr-F.Str span text) = strict_outcome s below (Expr-F.Str span text)
+node_outcome s below (Expr-F.Name span name) = strict_outcome s below (Expr-F.Name span name)
+node_outcome s below (Expr-F.Select span base field) = headed s (head_of (Expr-F.Select span base field)) (Ok [])
+node_outcome s below (Expr-F.Call span name arguments) = strict_outcome s below (Expr-F.Call span name arguments)
+node_outcome s below (Expr-F.Method span base name arguments) = strict_outcome s below (Expr-F.Method span base name arguments)
+node_outcome s below (Expr-F.Many span items) = strict_outcome s below (Expr-F.Many span items)
+node_outcome s below (Expr-F.Not span a) = strict_outcome s below (Expr-F.Not span a)
+node_outcome s below (Expr-F.Neg span a) = strict_outcome s below (Expr-F.Neg span a)
+node_outcome s below (Expr-F.Two span o a b) = two_outcome s o (below a) (below b)
 node_outcome s below (Expr-F.Pick span d a b) = choice (below d) (below a) (below b)
 
 -- within so many steps down, which are enough for a tree of no more nodes

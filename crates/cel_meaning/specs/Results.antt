@@ -1,5 +1,9 @@
 -- What the evaluator's functions give, as outcomes.
-use Rattle.std.specs.Prelude.{◌≡◌, ℕ, Bool, not, ◌||◌, if◌then◌else◌, ℤ, Option, Some, None, Result, Ok, Err, List, ◌++◌}
+use Rattle.std.specs.Prelude.{◌≡◌, ℕ, Bool, not, ◌||◌, if◌then◌else◌, ℤ, Option, Some, None, Result, Ok, Err, List, [], ◌∷◌, ◌++◌}
+use Rattle.std.specs.Option.{option_map}
+use Rattle.cel_tree.specs.declared.tree.Expr.{Expr}
+use Rattle.cel_tree.specs.declared.tree.Op.{Op}
+use Rattle.cel_tree.specs.declared.tree.Op.TheVariants as op
 use Rattle.cel_value.specs.declared.context.Context.{Context}
 use Rattle.cel_value.specs.declared.value.EvalFault.{EvalFault}
 use Rattle.cel_value.specs.declared.value.EvalFault.TheVariants.{Overflow, Range}
@@ -8,9 +12,15 @@ use Rattle.cel_value.specs.declared.value.Outcome.TheVariants.{Given, Stopped}
 use Rattle.cel_value.specs.declared.value.Value.{Value}
 use Rattle.cel_value.specs.declared.value.Value.TheVariants as value
 use Rattle.cel_types.specs.Bounds.{length_outcome, time_outcome}
-use Rattle.cel_types.specs.Means.{comes_to, first_stop}
+use Rattle.cel_types.specs.declared.form.Attribute.{Attribute}
+use Rattle.cel_types.specs.declared.form.Form.{Form}
+use Rattle.cel_types.specs.declared.form.TimePart.{TimePart}
+use Rattle.cel_types.specs.Heads as head
+use Rattle.cel_types.specs.Heads.{called_head}
+use Rattle.cel_types.specs.Means.{comes_to, conjunction, disjunction, first_stop}
 use Rattle.cel_types.specs.Setting.{Setting}
-use Rattle.cel_meaning.specs.Apply.{no_outcome}
+use Rattle.cel_meaning.specs.Apply.{no_outcome, shifted_part, two_values}
+use Rattle.cel_meaning.specs.OutcomeOf.{headed}
 use Rattle.cel_meaning.specs.declared.stop.Stop.{Stop}
 use Rattle.cel_meaning.specs.declared.stop.Stop.TheVariants as stop
 
@@ -39,6 +49,39 @@ Gathers r (Err stop.OutOfMemory) = Unit {0}
 abbrev pub behind : List Value → Result (List Value) EvalFault → Result (List Value) EvalFault
 behind vs (Ok ws) = Ok (vs ++ ws)
 behind vs (Err fault) = Err fault
+
+-- what a field of a base comes to, which is an attribute or nothing
+abbrev pub selected : Setting → Option Attribute → Outcome
+selected s o = headed s (option_map (λ a. head.attribute a) o) (Ok [])
+
+-- a function or a method of a form, whose parts are all evaluated
+abbrev pub called : Setting → Option Form → List Expr → Result (List Value) EvalFault → Outcome
+called s form arguments r = headed s (called_head form arguments) r
+
+abbrev pub list_of : Result (List Value) EvalFault → Outcome
+list_of (Err fault) = Stopped fault
+list_of (Ok vs) = Given (value.Many vs)
+
+-- an operator of one side, which stops with it
+abbrev pub on_one : (Value → Outcome) → Outcome → Outcome
+on_one f (Stopped fault) = Stopped fault
+on_one f (Given v) = f v
+
+-- an operator of two sides, which stops with the first that does
+abbrev pub on_two : Op → Outcome → Outcome → Outcome
+on_two o (Stopped fault) y = Stopped fault
+on_two o (Given v) (Stopped fault) = Stopped fault
+on_two o (Given v) (Given w) = two_values o v w
+
+abbrev pub two_sides : Op → Outcome → Outcome → Outcome
+two_sides op.And x y = conjunction x y
+two_sides op.Or x y = disjunction x y
+two_sides o x y = on_two o x y
+
+-- a part of a time in a zone, if it is one
+abbrev pub in_zone : TimePart → Option ℤ → ℤ → Outcome
+in_zone p None t = no_outcome
+in_zone p (Some minutes) t = shifted_part p minutes t
 
 -- where either side comes to the truth, it is that one, else an error, else the other truth
 abbrev pub junction : Bool → Outcome → Outcome → Outcome

@@ -3,8 +3,7 @@ ghost use Rattle.std.specs.Prelude.{◌≡◌, Option, map};
 ghost use Rattle.cel_types.specs.Tags.{attribute_outcome};
 ghost use Rattle.cel_value.specs.declared.value.Outcome.TheVariants.{Given};
 ghost use Rattle.cel_value.specs.declared.value.Value.TheVariants as value;
-ghost use Rattle.cel_meaning.specs.OutcomeOf.{selected};
-ghost use Rattle.cel_meaning.specs.Results.{Gives, at};
+ghost use Rattle.cel_meaning.specs.Results.{Gives, at, selected};
 
 use crate::operators::done;
 use crate::stop::{NO_VALUE, Stop};

@@ -2,9 +2,9 @@ ghost use Rattle.std.specs.Prelude.{◌≡◌, map, IfOk};
 ghost use Rattle.cel_value.specs.declared.value.Outcome.TheVariants.{Given};
 ghost use Rattle.cel_types.specs.Laws.{IsTruthOrFault};
 ghost use Rattle.cel_types.specs.Means.{Means};
-ghost use Rattle.cel_meaning.specs.Apply.{negation, on_one, on_two, opposite, two_outcome};
-ghost use Rattle.cel_meaning.specs.OutcomeOf.{all_values, called, list_of, outcome_of};
-ghost use Rattle.cel_meaning.specs.Results.{Gathers, Gives, at, behind, junction};
+ghost use Rattle.cel_meaning.specs.Apply.{negation, opposite};
+ghost use Rattle.cel_meaning.specs.OutcomeOf.{all_values, outcome_of};
+ghost use Rattle.cel_meaning.specs.Results.{Gathers, Gives, at, behind, called, junction, list_of, on_one, on_two, two_sides};
 
 use crate::attributes::{selected, string};
 use crate::forms::called;
@@ -151,7 +151,7 @@ fn two<F: Facts>(
     left: Outcome,
     facts: &F,
 ) -> Result<Value, Stop>
-    ensures { Gives (two_outcome op left (outcome_of (at (F.context facts.now)) right.now)) result }
+    ensures { Gives (two_sides op left (outcome_of (at (F.context facts.now)) right.now)) result }
 {
     match op {
         Op::And => either(alloc, right, false, left, facts),

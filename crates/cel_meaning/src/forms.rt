@@ -3,28 +3,26 @@ ghost use Rattle.std.specs.Prelude.{◌≡◌, nat_eq, ℕ, ℤ, List};
 ghost use Rattle.std.specs.Option.{option_copied};
 ghost use Rattle.cel_value.specs.declared.value.Outcome.{Outcome};
 ghost use Rattle.std.specs.List.{ends_with, starts_with};
-ghost use Rattle.cel_types.specs.Arguments.{text_of};
-ghost use Rattle.cel_types.specs.Extract.{extracted};
+ghost use Rattle.cel_types.specs.Extract.{extracted, prefix_of, suffix_of};
+ghost use Rattle.cel_types.specs.Heads.{with_literals};
 ghost use Rattle.cel_types.specs.TimeText.{duration_outcome, timestamp_outcome};
-ghost use Rattle.cel_types.specs.Zone.{zone_minutes};
 ghost use Rattle.cel_value.specs.declared.value.Outcome.TheVariants.{Given};
 ghost use Rattle.cel_value.specs.declared.value.Value.TheVariants as value;
-ghost use Rattle.cel_meaning.specs.Apply.{apply, has_only, in_zone, of_text, of_texts, of_time, truth};
-ghost use Rattle.cel_meaning.specs.Dates.{part_outcome};
-ghost use Rattle.cel_meaning.specs.OutcomeOf.{called};
-ghost use Rattle.cel_meaning.specs.Results.{Gives, at, at_text, at_time, outcome};
+ghost use Rattle.cel_meaning.specs.Apply.{has_only, of_text, of_text_first, of_texts, of_time, truth};
+ghost use Rattle.cel_meaning.specs.OutcomeOf.{headed};
+ghost use Rattle.cel_meaning.specs.Results.{Gives, at, at_text, at_time, called, in_zone, outcome};
 
 use crate::attributes::{string, strings};
 use crate::durations::duration;
 use crate::lists::all_in;
 use crate::operators::done;
-use crate::parts::{part, part_in};
+use crate::parts::part_in;
 use crate::stop::{NO_VALUE, Stop};
 use crate::tags::tag;
 use crate::texts::{ends_with, extracted, starts_with};
 use crate::timestamps::timestamp;
 use cel_tree::Expr;
-use cel_types::{Form, TimePart, text_of, zone_minutes};
+use cel_types::{Form, TimePart, first_text, second_text, zone_of};
 use cel_value::{EvalFault, Facts, Value};
 use std::alloc::Global;
 
@@ -77,13 +75,12 @@ fn ends(values: &[Value]) -> Result<Value, EvalFault>
     }
 }
 
-fn extract(alloc: Global, values: &[Value]) -> Result<Value, Stop>
-    ensures { Gives (of_texts (λ t u. Given (value.Str (extracted t u))) values.now) result }
+// The template's literal stands behind the text.
+fn extract(alloc: Global, template: &str, values: &[Value]) -> Result<Value, Stop>
+    ensures { Gives (of_text_first (λ t. Given (value.Str (extracted (prefix_of template.now) (suffix_of template.now) t))) values.now) result }
 {
     match values {
-        [Value::Str(text), Value::Str(template)] => {
-            string(alloc, extracted(text.as_str(), template.as_str()))
-        }
+        [Value::Str(text), _] => string(alloc, extracted(text.as_str(), template)),
         _ => Err(Stop::Fault(NO_VALUE)),
     }
 }
@@ -110,15 +107,6 @@ fn time_of(values: &[Value]) -> Option<i128>
     }
 }
 
-fn part_of(asked: TimePart, values: &[Value]) -> Result<Value, EvalFault>
-    ensures { outcome result ≡ of_time (part_outcome asked) values.now }
-{
-    match time_of(values) {
-        Some(time) => part(asked, time),
-        None => Err(NO_VALUE),
-    }
-}
-
 fn part_in_zone(asked: TimePart, minutes: Option<i16>, values: &[Value]) -> Result<Value, EvalFault>
     ensures { outcome result ≡ of_time (in_zone asked minutes) values.now }
 {
@@ -138,19 +126,25 @@ fn apply<F: Facts>(
     values: &[Value],
     facts: &F,
 ) -> Result<Value, Stop>
-    ensures { Gives (apply (at (F.context facts.now)) form arguments.now values.now) result }
+    ensures { Gives (headed (at (F.context facts.now)) (with_literals form arguments.now) (Ok values.now)) result }
 {
     match form {
-        Form::Tag(function) => done(tag(function, arguments, facts)),
+        Form::Tag(function) => {
+            done(tag(
+                function,
+                first_text(arguments),
+                second_text(arguments),
+                facts,
+            ))
+        }
         Form::Modified => strings(alloc, facts.modified()),
         Form::Timestamp => done(timestamp_of(values)),
         Form::Duration => done(duration_of(values)),
         Form::StartsWith => done(begins(values)),
         Form::EndsWith => done(ends(values)),
-        Form::Extract => extract(alloc, values),
+        Form::Extract => extract(alloc, first_text(arguments), values),
         Form::HasOnly => done(has_only(values)),
-        Form::Part(part) => done(part_of(part, values)),
-        Form::PartIn(part) => done(part_in_zone(part, zone_minutes(text_of(arguments)), values)),
+        Form::Part(part) => done(part_in_zone(part, zone_of(arguments), values)),
         Form::Bool
         | Form::Int
         | Form::Str

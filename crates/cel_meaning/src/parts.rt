@@ -30,8 +30,8 @@ fn part_of(part: TimePart, at: DateTime) -> i64
     }
 }
 
-/// A part of a time in UTC.
-pub fn part(part: TimePart, time: i128) -> Result<Value, EvalFault>
+// A part of a time in UTC.
+fn part(part: TimePart, time: i128) -> Result<Value, EvalFault>
     ensures { outcome result ≡ part_outcome part time }
 {
     if !is_time(time) {

@@ -2,17 +2,12 @@
 ghost use Rattle.std.specs.Prelude.{◌≡◌, ◌++◌, Option, codes, if◌then◌else◌, is_some};
 ghost use Rattle.std.specs.Fmt.{decimal};
 ghost use Rattle.std.specs.Str.{bytes_eq};
-ghost use Rattle.cel_tree.specs.declared.tree.Expr.{out-Expr};
-ghost use Rattle.cel_types.specs.Arguments.{literal_text};
-ghost use Rattle.cel_types.specs.Means.{texts_of};
 ghost use Rattle.cel_types.specs.Tags.{decimal_number, has_id, has_short, key_number, key_with_id, of_key, tag_outcome};
-ghost use Rattle.cel_types.specs.declared.form.TagFunction.TheVariants.{HasTagKey, HasTagKeyId, MatchTag, MatchTagId};
 ghost use Rattle.cel_value.specs.Keys.{IsAnswer};
 ghost use Rattle.cel_value.specs.declared.context.KeyFact.{KeyFact};
 ghost use Rattle.cel_meaning.specs.Results.{outcome};
 
 use crate::texts::without_front;
-use cel_tree::Expr;
 use cel_types::TagFunction;
 use cel_value::{EvalFault, Facts, KeyAnswer, Value};
 use itoa::Buffer;
@@ -104,63 +99,19 @@ fn has_id(answer: KeyAnswer<'_>, wanted: &str) -> Result<Value, EvalFault>
     }
 }
 
-fn literal_text(expr: &Expr) -> &str
-    ensures { result.now ≡ literal_text (out-Expr expr.entry.now) }
-{
-    match expr {
-        Expr::Str(_, text) => text.as_str(),
-        _ => "",
-    }
-}
-
-fn match_tag<F: Facts>(arguments: &[Expr], facts: &F) -> Result<Value, EvalFault>
-    ensures { outcome result ≡ tag_outcome (F.context facts.now) MatchTag (texts_of arguments.now) }
-{
-    match arguments {
-        [key, short] => has_short(facts.key_named(literal_text(key)), literal_text(short)),
-        _ => Err(EvalFault::UnknownTag),
-    }
-}
-
-fn match_tag_id<F: Facts>(arguments: &[Expr], facts: &F) -> Result<Value, EvalFault>
-    ensures { outcome result ≡ tag_outcome (F.context facts.now) MatchTagId (texts_of arguments.now) }
-{
-    match arguments {
-        [key, id] => has_id(key_with_id(literal_text(key), facts), literal_text(id)),
-        _ => Err(EvalFault::UnknownTag),
-    }
-}
-
-fn has_tag_key<F: Facts>(arguments: &[Expr], facts: &F) -> Result<Value, EvalFault>
-    ensures { outcome result ≡ tag_outcome (F.context facts.now) HasTagKey (texts_of arguments.now) }
-{
-    match arguments {
-        [key] => is_bound(facts.key_named(literal_text(key))),
-        _ => Err(EvalFault::UnknownTag),
-    }
-}
-
-fn has_tag_key_id<F: Facts>(arguments: &[Expr], facts: &F) -> Result<Value, EvalFault>
-    ensures { outcome result ≡ tag_outcome (F.context facts.now) HasTagKeyId (texts_of arguments.now) }
-{
-    match arguments {
-        [key] => is_bound(key_with_id(literal_text(key), facts)),
-        _ => Err(EvalFault::UnknownTag),
-    }
-}
-
-/// What a tag function comes to, whose arguments are literals.
+/// What a tag function of a key comes to, with what its value is to be, where it asks for that.
 pub fn tag<F: Facts>(
     function: TagFunction,
-    arguments: &[Expr],
+    key: &str,
+    asked: &str,
     facts: &F,
 ) -> Result<Value, EvalFault>
-    ensures { outcome result ≡ tag_outcome (F.context facts.now) function (texts_of arguments.now) }
+    ensures { outcome result ≡ tag_outcome (F.context facts.now) function key.now asked.now }
 {
     match function {
-        TagFunction::MatchTag => match_tag(arguments, facts),
-        TagFunction::MatchTagId => match_tag_id(arguments, facts),
-        TagFunction::HasTagKey => has_tag_key(arguments, facts),
-        TagFunction::HasTagKeyId => has_tag_key_id(arguments, facts),
+        TagFunction::MatchTag => has_short(facts.key_named(key), asked),
+        TagFunction::MatchTagId => has_id(key_with_id(key, facts), asked),
+        TagFunction::HasTagKey => is_bound(facts.key_named(key)),
+        TagFunction::HasTagKeyId => is_bound(key_with_id(key, facts)),
     }
 }

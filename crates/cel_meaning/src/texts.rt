@@ -87,7 +87,7 @@ fn up_to<'a>(suffix: &str, text: &'a str) -> &'a str
 
 /// What a template's name stands for in a text.
 pub fn extracted<'a>(text: &'a str, template: &str) -> &'a str
-    ensures { result.now ≡ extracted text.entry.now template.now }
+    ensures { result.now ≡ extracted (prefix_of template.now) (suffix_of template.now) text.entry.now }
 {
     match behind_text(prefix_of(template), text) {
         Some(rest) => up_to(suffix_of(template), rest),

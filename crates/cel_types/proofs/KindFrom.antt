@@ -5,6 +5,7 @@ use Rattle.cel_tree.specs.declared.tree.Op.{Op}
 use Rattle.cel_tree.specs.declared.tree.Op.TheVariants as op
 use Rattle.cel_types.specs.declared.form.Form.{Form}
 use Rattle.cel_types.specs.declared.form.Form.TheVariants as form
+use Rattle.cel_types.specs.declared.form.TimePart.{TimePart}
 use Rattle.cel_types.specs.declared.kind.Base.{Base}
 use Rattle.cel_types.specs.declared.kind.Base.TheVariants as base
 use Rattle.cel_types.specs.declared.kind.Kind.{Kind}
@@ -13,7 +14,7 @@ use Rattle.cel_types.specs.HasKind as rule
 use Rattle.cel_types.specs.HasKind.{KindFrom, AllAre, is_arithmetic, is_equality, is_order, is_ordered_base}
 use Rattle.cel_types.specs.Kinds.{truth, int, str, time, length, strs, is_base, is_kind, attribute_kind}
 use Rattle.cel_types.specs.Nodes.{differing}
-use Rattle.cel_types.specs.Rows.{from_one, look_up, from_two, sums, differences, orders, members, equal_kind, operator_kind, many_of, list_kind, choice_kind, kind_from}
+use Rattle.cel_types.specs.Rows.{from_one, look_up, from_two, sums, differences, orders, members, equal_kind, operator_kind, many_of, list_kind, choice_kind, part_kind, kind_from}
 
 pub is_base_refl : (b : Base) → is_base b b ≡ true
 is_base_refl base.Bool = refl
@@ -220,6 +221,11 @@ choice_given (x ∷ y ∷ z ∷ []) k e =
     (subst (λ w. KindFrom form.Pick (truth ∷ y ∷ w ∷ []) y) (same_kind y z i.1) rule.choice)) h.1
 choice_given (x ∷ y ∷ z ∷ w ∷ ks) k e = never e
 
+part_given : (p : TimePart) (ks : List Kind) (k : Kind) → part_kind ks ≡ Some k → KindFrom (form.Part p) ks k
+part_given p [] k e = never e
+part_given p (x ∷ []) k e = one_given _ time int (x ∷ []) k rule.part e
+part_given p (x ∷ y ∷ ks) k e = two_given _ ((time, str, int) ∷ []) (x ∷ y ∷ ks) k (rule.part_in, tt) e
+
 pub given : (f : Form) (ks : List Kind) (k : Kind) → kind_from f ks ≡ Some k → KindFrom f ks k
 given form.Bool ks k e = leaf_given _ truth ks k rule.bool_literal e
 given form.Int ks k e = leaf_given _ int ks k rule.int_literal e
@@ -233,8 +239,7 @@ given form.StartsWith ks k e = two_given _ ((str, str, truth) ∷ []) ks k (rule
 given form.EndsWith ks k e = two_given _ ((str, str, truth) ∷ []) ks k (rule.ends_with, tt) e
 given form.Extract ks k e = two_given _ ((str, str, str) ∷ []) ks k (rule.extract, tt) e
 given form.HasOnly ks k e = two_given _ ((strs, strs, truth) ∷ []) ks k (rule.has_only, tt) e
-given (form.Part p) ks k e = one_given _ time int ks k rule.part e
-given (form.PartIn p) ks k e = two_given _ ((time, str, int) ∷ []) ks k (rule.part_in, tt) e
+given (form.Part p) ks k e = part_given p ks k e
 given form.List ks k e = list_given ks k e
 given form.Not ks k e = one_given _ truth truth ks k rule.logical_not e
 given form.Neg ks k e = one_given _ int int ks k rule.negative e

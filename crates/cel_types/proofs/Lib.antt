@@ -4,5 +4,6 @@ pub mod Judged
 pub mod Walk
 pub mod Smaller
 pub mod KindOf
+pub mod Heads
 pub mod OneOutcome
 pub mod OfKind

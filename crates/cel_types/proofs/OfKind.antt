@@ -28,18 +28,18 @@ use Rattle.cel_types.specs.declared.kind.Base.{Base}
 use Rattle.cel_types.specs.declared.kind.Base.TheVariants as base
 use Rattle.cel_types.specs.declared.kind.Kind.{Kind}
 use Rattle.cel_types.specs.declared.kind.Kind.TheVariants.{One, Many}
-use Rattle.cel_types.specs.declared.kind.Place.{Place}
-use Rattle.cel_types.specs.Arguments.{arguments_of}
+use Rattle.cel_types.specs.Sight.{Sight}
 use Rattle.cel_types.specs.Bounds.{int_outcome, time_outcome, length_outcome, quotient_outcome, remainder_outcome, is_int, is_time, is_length, nanos_of_seconds}
 use Rattle.cel_types.specs.Calendar as has
 use Rattle.cel_types.specs.Calendar.{HasPart}
 use Rattle.cel_types.specs.Forms.{form_of}
 use Rattle.cel_types.specs.HasKind as kinded
 use Rattle.cel_types.specs.HasKind.{HasKind, HaveKinds, KindFrom, AllAre, parts}
+use Rattle.cel_types.specs.Heads.{Head}
 use Rattle.cel_types.specs.Kinds.{truth, int, str, time, length, strs, attribute_kind}
 use Rattle.cel_types.specs.Setting.{Setting}
 use Rattle.cel_types.specs.Means as rule
-use Rattle.cel_types.specs.Means.{Means, MeansAt, PartsMean, Concludes, Applies, conjunction, disjunction, first_stop, comes_to, texts_of}
+use Rattle.cel_types.specs.Means.{Means, MeansAt, PartsMean, Concludes, Applies, conjunction, disjunction, first_stop, comes_to}
 use Rattle.cel_types.specs.OfKind as of
 use Rattle.cel_types.specs.OfKind.{IsOf, OutcomeIsOf, AllHaveBase, layer_is_of}
 use Rattle.cel_types.specs.Rows.{kind_from}
@@ -47,6 +47,7 @@ use Rattle.cel_types.specs.Tags.{tag_outcome, attribute_outcome, of_key, key_wit
 use Rattle.cel_types.specs.TimeText.{time_or_fault, time_of_text, length_or_fault, length_of_text}
 use Rattle.cel_types.proofs.OneKind.{same_some}
 use Rattle.cel_types.proofs.KindFrom.{computed}
+use Rattle.cel_types.proofs.Heads.{form_in, head_form}
 
 -- the values are of the kinds, one each
 abbrev pub AllOf : List Value → List Kind → Type 0
@@ -101,12 +102,11 @@ key_kept : (key : Option KeyFact) (test : Option ValueFact → Bool) → Outcome
 key_kept None test = of.stopped
 key_kept (Some key) test = of.given (is_bool (test key.value))
 
-tag_kept : (c : Context) (f : TagFunction) (texts : List (List ℕ)) → OutcomeIsOf (tag_outcome c f texts) truth
-tag_kept c MatchTag (key ∷ short ∷ []) = key_kept (key_named key c.keys) (has_short short)
-tag_kept c MatchTagId (key ∷ id ∷ []) = key_kept (key_with_id key c.keys) (has_id id)
-tag_kept c HasTagKey (key ∷ []) = key_kept (key_named key c.keys) (λ fact. is_some fact)
-tag_kept c HasTagKeyId (key ∷ []) = key_kept (key_with_id key c.keys) (λ fact. is_some fact)
-tag_kept c _ _ = of.stopped
+tag_kept : (c : Context) (f : TagFunction) (key asked : List ℕ) → OutcomeIsOf (tag_outcome c f key asked) truth
+tag_kept c MatchTag key asked = key_kept (key_named key c.keys) (has_short asked)
+tag_kept c MatchTagId key asked = key_kept (key_with_id key c.keys) (has_id asked)
+tag_kept c HasTagKey key asked = key_kept (key_named key c.keys) (λ fact. is_some fact)
+tag_kept c HasTagKeyId key asked = key_kept (key_with_id key c.keys) (λ fact. is_some fact)
 
 attribute_kept : (c : Context) (a : Attribute) → OutcomeIsOf (attribute_outcome c a) (attribute_kind a)
 attribute_kept c ResourceType = of.given (is_str c.resource_kind)
@@ -181,10 +181,6 @@ of_length d k h = known k (subst (λ z. layer_is_of z k) (outs-Length d) h)
     known (One _) h = absurd h
     known (Many _) h = absurd h
 
-no_kinds : (ks : List Kind) → AllOf [] ks → ks ≡ []
-no_kinds [] h = refl
-no_kinds (k ∷ ks) h = absurd h
-
 one_kind : (v : Value) (a : Kind) (ks : List Kind) → ((k : Kind) → IsOf v k → k ≡ a) → AllOf (v ∷ []) ks → ks ≡ a ∷ []
 one_kind v a [] p h = absurd h
 one_kind v a (k ∷ []) p h = ap (λ z. z ∷ []) (p k h.0)
@@ -239,6 +235,13 @@ truth_row kinded.member e = refl
 has_only_row : {ks : List Kind} {k : Kind} → KindFrom form.HasOnly ks k → k ≡ truth
 has_only_row kinded.has_only = refl
 
+extract_row : {ks : List Kind} {k : Kind} → KindFrom form.Extract ks k → k ≡ str
+extract_row kinded.extract = refl
+
+part_row : {p : TimePart} {ks : List Kind} {k : Kind} → KindFrom (form.Part p) ks k → k ≡ int
+part_row kinded.part = refl
+part_row kinded.part_in = refl
+
 pick_row : {ks : List Kind} {k : Kind} → KindFrom form.Pick ks k → ks ≡ truth ∷ k ∷ k ∷ []
 pick_row kinded.choice = refl
 
@@ -246,11 +249,10 @@ truth_kept : {b : Bool} {k : Kind} → k ≡ truth → OutcomeIsOf (Given (value
 truth_kept {b} {k} e = moved (sym e) (of.given (is_bool b))
 
 -- values of the kinds of a row give an outcome of its kind
-applied_kept : {c : Setting} {f : Form} {e : Expr-F Expr} {vs : List Value} {o : Outcome} → Applies c f e vs o
-    → (ks : List Kind) (k : Kind) → KindFrom f ks k → AllOf vs ks → OutcomeIsOf o k
-applied_kept (rule.bool_literal {b = b}) ks k from h = truth_kept (sym (row_kind from (no_kinds ks h) refl))
-applied_kept (rule.int_literal {n = n}) ks k from h = moved (row_kind from (no_kinds ks h) refl) (of.given (is_int_value n))
-applied_kept (rule.str_literal {s = s}) ks k from h = moved (row_kind from (no_kinds ks h) refl) (of.given (is_str s))
+applied_kept : {c : Setting} {f : Head} {vs : List Value} {o : Outcome} → Applies c f vs o → (ks : List Kind) (k : Kind) → KindFrom (form_in f) ks k → AllOf vs ks → OutcomeIsOf o k
+applied_kept (rule.bool_literal {b = b}) ks k from h = truth_kept (sym (row_kind from refl refl))
+applied_kept (rule.int_literal {n = n}) ks k from h = moved (row_kind from refl refl) (of.given (is_int_value n))
+applied_kept (rule.str_literal {s = s}) ks k from h = moved (row_kind from refl refl) (of.given (is_str s))
 applied_kept (rule.logical_not {b = b}) ks k from h = truth_kept (sym (row_kind from (one_kind _ truth ks (of_bool b) h) refl))
 applied_kept (rule.negative {n = n}) ks k from h = moved (row_kind from (one_kind _ int ks (of_int n) h) refl) (int_kept (neg_ℤ n))
 applied_kept (rule.int_plus_int {m = m} {n = n}) ks k from h =
@@ -286,29 +288,24 @@ applied_kept (rule.greater_or_equal d) ks k from h = truth_kept (truth_row from 
 applied_kept (rule.member ws many d) ks k from h = truth_kept (truth_row from refl)
 applied_kept (rule.list {vs = vs}) ks k from h = of.given (list_kept vs from h)
 applied_kept {c = c} (rule.attribute {a = a}) ks k from h =
-    moved (row_kind from (no_kinds ks h) refl) (attribute_kept c.context a)
+    moved (row_kind from refl refl) (attribute_kept c.context a)
 applied_kept (rule.timestamp {s = s}) ks k from h =
     moved (row_kind from (one_kind _ str ks (of_str s) h) refl) (timestamp_kept (time_of_text s))
 applied_kept (rule.duration {s = s}) ks k from h =
     moved (row_kind from (one_kind _ str ks (of_str s) h) refl) (duration_kept (length_of_text s))
 applied_kept (rule.begins {s = s} {t = t}) ks k from h = truth_kept (sym (row_kind from (two_kinds _ _ str str ks (of_str s) (of_str t) h) refl))
 applied_kept (rule.ends {s = s} {t = t}) ks k from h = truth_kept (sym (row_kind from (two_kinds _ _ str str ks (of_str s) (of_str t) h) refl))
-applied_kept (rule.extract {s = s} {t = t}) ks k from h =
-    moved (row_kind from (two_kinds _ _ str str ks (of_str s) (of_str t) h) refl) (of.given (is_str _))
-applied_kept (rule.part {t = t} {o = o} part) ks k from h =
-    moved (row_kind from (one_kind _ time ks (of_time t) h) refl) (part_kept part)
-applied_kept (rule.part_in {t = t} {z = z} {o = o} zone part) ks k from h =
-    moved (row_kind from (two_kinds _ _ time str ks (of_time t) (of_str z) h) refl) (part_kept part)
-applied_kept {c = c} (rule.tag {e = e} {f = f}) ks k from h = moved (row_kind from (no_kinds ks h) refl) (tag_kept c.context f (texts_of (arguments_of e)))
-applied_kept (rule.modified) ks k from h = moved (row_kind from (no_kinds ks h) refl) (of.given (modified_kept _))
+applied_kept rule.extract ks k from h = moved (sym (extract_row from)) (of.given (is_str _))
+applied_kept (rule.part part) ks k from h = moved (sym (part_row from)) (part_kept part)
+applied_kept {c = c} (rule.tag {f = f} {key = key} {asked = asked}) ks k from h = moved (row_kind from refl refl) (tag_kept c.context f key asked)
+applied_kept rule.modified ks k from h = moved (row_kind from refl refl) (of.given (modified_kept _))
 applied_kept (rule.has_only vs ws many more d) ks k from h = truth_kept (has_only_row from)
 
 abbrev pub ResultIsOf : Result (List Value) EvalFault → List Kind → Type 0
 ResultIsOf (Ok vs) ks = AllOf vs ks
 ResultIsOf (Err fault) ks = Unit {0}
 
-concluded_kept : {c : Setting} {f : Form} {e : Expr-F Expr} {r : Result (List Value) EvalFault} {o : Outcome} → Concludes c f e r o
-    → (ks : List Kind) (k : Kind) → KindFrom f ks k → ResultIsOf r ks → OutcomeIsOf o k
+concluded_kept : {c : Setting} {f : Head} {r : Result (List Value) EvalFault} {o : Outcome} → Concludes c f r o → (ks : List Kind) (k : Kind) → KindFrom (form_in f) ks k → ResultIsOf r ks → OutcomeIsOf o k
 concluded_kept rule.stops ks k from h = of.stopped
 concluded_kept (rule.gives applied) ks k from h = applied_kept applied ks k from h
 
@@ -333,39 +330,39 @@ at_form : {f g : Form} {ks : List Kind} {k : Kind} → Some g ≡ Some f → Kin
 at_form {f} {g} {ks} {k} e from = subst (λ z. KindFrom z ks k) (sym (same_some e)) from
 
 -- the kinds of the branches of a choice
-branch_kinds : {place : Place} {d a b : Expr} {ks : List Kind} {k : Kind} → HaveKinds place (d ∷ a ∷ b ∷ []) ks → ks ≡ truth ∷ k ∷ k ∷ []
-    → HasKind place a k × HasKind place b k
-branch_kinds {place} {d} {a} {b} {ks} {k} have e = read (subst (λ z. HaveKinds place (d ∷ a ∷ b ∷ []) z) e have)
+branch_kinds : {sight : Sight} {d a b : Expr} {ks : List Kind} {k : Kind} → HaveKinds sight (d ∷ a ∷ b ∷ []) ks → ks ≡ truth ∷ k ∷ k ∷ []
+    → HasKind sight a k × HasKind sight b k
+branch_kinds {sight} {d} {a} {b} {ks} {k} have e = read (subst (λ z. HaveKinds sight (d ∷ a ∷ b ∷ []) z) e have)
   where
-    read : HaveKinds place (d ∷ a ∷ b ∷ []) (truth ∷ k ∷ k ∷ []) → HasKind place a k × HasKind place b k
+    read : HaveKinds sight (d ∷ a ∷ b ∷ []) (truth ∷ k ∷ k ∷ []) → HasKind sight a k × HasKind sight b k
     read (kinded.more h (kinded.more i (kinded.more j kinded.none))) = (i, j)
 
 mutual
-  pub kept : {c : Setting} {e : Expr} {o : Outcome} → Means c e o → (place : Place) (k : Kind) → HasKind place e k → OutcomeIsOf o k
-  kept (rule.node h) place k (kinded.node form fits have from) = kept_at h place _ _ k form have from
+  pub kept : {c : Setting} {e : Expr} {o : Outcome} → Means c e o → (sight : Sight) (k : Kind) → HasKind sight e k → OutcomeIsOf o k
+  kept (rule.node h) sight k (kinded.node form fits have from) = kept_at h sight _ _ k form have from
 
-  kept_at : {c : Setting} {e : Expr-F Expr} {o : Outcome} → MeansAt c e o → (place : Place) (f : Form) (ks : List Kind) (k : Kind)
-      → form_of e ≡ Some f → HaveKinds place (parts e) ks → KindFrom f ks k → OutcomeIsOf o k
-  kept_at (rule.false_and d) place f ks k form have from = truth_kept (truth_row (at_form form from) refl)
-  kept_at (rule.and {x = x} {y = y} d i) place f ks k form have from =
+  kept_at : {c : Setting} {e : Expr-F Expr} {o : Outcome} → MeansAt c e o → (sight : Sight) (f : Form) (ks : List Kind) (k : Kind)
+      → form_of e ≡ Some f → HaveKinds sight (parts e) ks → KindFrom f ks k → OutcomeIsOf o k
+  kept_at (rule.false_and d) sight f ks k form have from = truth_kept (truth_row (at_form form from) refl)
+  kept_at (rule.and {x = x} {y = y} d i) sight f ks k form have from =
       moved (sym (truth_row (at_form form from) refl)) (conjunction_kept x y)
-  kept_at (rule.true_or d) place f ks k form have from = truth_kept (truth_row (at_form form from) refl)
-  kept_at (rule.or {x = x} {y = y} d i) place f ks k form have from =
+  kept_at (rule.true_or d) sight f ks k form have from = truth_kept (truth_row (at_form form from) refl)
+  kept_at (rule.or {x = x} {y = y} d i) sight f ks k form have from =
       moved (sym (truth_row (at_form form from) refl)) (disjunction_kept x y)
-  kept_at (rule.picked d i) place f ks k form have from =
-      kept i place k (branch_kinds have (pick_row (at_form form from))).0
-  kept_at (rule.other d i) place f ks k form have from =
-      kept i place k (branch_kinds have (pick_row (at_form form from))).1
-  kept_at (rule.undecided d) place f ks k form have from = of.stopped
-  kept_at (rule.strict s form' parts' conclusion) place f ks k form have from =
-      concluded_kept conclusion ks k (at_form (sym form' ∙ form) from) (kept_parts parts' place ks have)
+  kept_at (rule.picked d i) sight f ks k form have from =
+      kept i sight k (branch_kinds have (pick_row (at_form form from))).0
+  kept_at (rule.other d i) sight f ks k form have from =
+      kept i sight k (branch_kinds have (pick_row (at_form form from))).1
+  kept_at (rule.undecided d) sight f ks k form have from = of.stopped
+  kept_at (rule.strict {e = e} {h = h} s has parts' conclusion) sight f ks k form have from =
+      concluded_kept conclusion ks k (at_form (sym (head_form e h has) ∙ form) from) (kept_parts parts' sight ks have)
 
   kept_parts : {c : Setting} {es : List Expr} {r : Result (List Value) EvalFault} → PartsMean c es r
-      → (place : Place) (ks : List Kind) → HaveKinds place es ks → ResultIsOf r ks
-  kept_parts rule.none place ks kinded.none = tt
-  kept_parts (rule.more d r) place ks (kinded.more h i) = (given_is (kept d place _ h), kept_parts r place _ i)
-  kept_parts (rule.first_stops d) place ks have = tt
-  kept_parts (rule.later_stops d r) place ks have = tt
+      → (sight : Sight) (ks : List Kind) → HaveKinds sight es ks → ResultIsOf r ks
+  kept_parts rule.none sight ks kinded.none = tt
+  kept_parts (rule.more d r) sight ks (kinded.more h i) = (given_is (kept d sight _ h), kept_parts r sight _ i)
+  kept_parts (rule.first_stops d) sight ks have = tt
+  kept_parts (rule.later_stops d r) sight ks have = tt
 
 -- a value of kind Bool is a truth
 pub truth_value : (v : Value) → IsOf v truth → (b : Bool) × (v ≡ value.Bool b)

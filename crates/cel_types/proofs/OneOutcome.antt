@@ -15,12 +15,11 @@ use Rattle.cel_value.specs.declared.value.Outcome.TheVariants.{Given, Stopped}
 use Rattle.cel_value.specs.declared.value.Value.{Value, out-Value}
 use Rattle.cel_value.specs.declared.value.Value.TheVariants as value
 use Rattle.cel_value.specs.declared.value.Value.TheVariants.{outs-Bool, outs-Many}
-use Rattle.cel_types.specs.declared.form.Form.{Form}
 use Rattle.cel_types.specs.declared.form.TimePart.{TimePart}
 use Rattle.cel_types.specs.declared.form.TimePart.TheVariants.{FullYear, Month, Date, DayOfMonth, DayOfWeek, DayOfYear, Hours, Minutes, Seconds, Milliseconds}
-use Rattle.cel_types.specs.Bounds.{nanos_of_minutes}
 use Rattle.cel_types.specs.Calendar as has
 use Rattle.cel_types.specs.Calendar.{HasPart, part_of}
+use Rattle.cel_types.specs.Heads.{Head}
 use Rattle.cel_types.specs.Setting.{Setting}
 use Rattle.cel_types.specs.Means as rule
 use Rattle.cel_types.specs.Means.{Means, MeansAt, PartsMean, Concludes, Applies, conjunction, disjunction, first_stop, comes_to, value_is, AllIn}
@@ -71,8 +70,7 @@ one_part p t o (has.outside out) q (has.within a in_range h) = absurd (let P : �
 one_part p t o (has.outside out) q (has.outside out') = refl
 
 -- values of parts give one outcome
-one_applies : {c : Setting} {f : Form} {e : Expr-F Expr} {vs : List Value} {o : Outcome} → Applies c f e vs o
-    → (q : Outcome) → Applies c f e vs q → o ≡ q
+one_applies : {c : Setting} {h : Head} {vs : List Value} {o : Outcome} → Applies c h vs o → (q : Outcome) → Applies c h vs q → o ≡ q
 one_applies rule.bool_literal q rule.bool_literal = refl
 one_applies rule.int_literal q rule.int_literal = refl
 one_applies rule.str_literal q rule.str_literal = refl
@@ -106,24 +104,20 @@ one_applies rule.begins q rule.begins = refl
 one_applies rule.ends q rule.ends = refl
 one_applies rule.extract q rule.extract = refl
 one_applies (rule.part h) q (rule.part i) = one_part _ _ _ h q i
-one_applies (rule.part_in {p = p} {t = t} zone h) q (rule.part_in zone' i) =
-    one_part _ _ _ h q (subst (λ m. HasPart p (t +ℤ nanos_of_minutes m) q) (same_some (sym zone' ∙ zone)) i)
 one_applies rule.tag q rule.tag = refl
 one_applies rule.modified q rule.modified = refl
 one_applies (rule.has_only vs ws many more d) q (rule.has_only {b = b} vs' ws' many' more' d') =
     same_truth d (subst (λ z. Decides b (AllIn z ws)) (same_items (sym many' ∙ many))
     (subst (λ z. Decides b (AllIn vs' z)) (same_items (sym more' ∙ more)) d'))
 
-one_conclusion : {c : Setting} {f : Form} {e : Expr-F Expr} {r : Result (List Value) EvalFault} {o : Outcome} → Concludes c f e r o
-    → (q : Outcome) → Concludes c f e r q → o ≡ q
+one_conclusion : {c : Setting} {h : Head} {r : Result (List Value) EvalFault} {o : Outcome} → Concludes c h r o → (q : Outcome) → Concludes c h r q → o ≡ q
 one_conclusion rule.stops q rule.stops = refl
 one_conclusion (rule.gives a) q (rule.gives b) = one_applies a q b
 
--- the same results of the parts of one form
-concluded : {c : Setting} {f g : Form} {e : Expr-F Expr} {r s : Result (List Value) EvalFault} {o q : Outcome} → f ≡ g → r ≡ s
-    → Concludes c f e r o → Concludes c g e s q → o ≡ q
-concluded {c} {f} {g} {e} {r} {s} {o} {q} fg rs h i =
-    one_conclusion h q (subst (λ z. Concludes c z e r q) (sym fg) (subst (λ z. Concludes c g e z q) (sym rs) i))
+-- the same results of the parts of one head
+concluded : {c : Setting} {f g : Head} {r s : Result (List Value) EvalFault} {o q : Outcome} → f ≡ g → r ≡ s → Concludes c f r o → Concludes c g s q → o ≡ q
+concluded {c} {f} {g} {r} {s} {o} {q} fg rs h i =
+    one_conclusion h q (subst (λ z. Concludes c z r q) (sym fg) (subst (λ z. Concludes c g z q) (sym rs) i))
 
 itself : (b : Bool) → comes_to b (Given (value.Bool b)) ≡ true
 itself true = ap (λ z. value_is true z) (outs-Bool true)

@@ -26,11 +26,11 @@ abbrev pub up_to : List ℕ → List ℕ → List ℕ
 up_to [] text = text
 up_to (b ∷ bs) text = unwrap_or (before_text (b ∷ bs) text) []
 
-abbrev between : Option (List ℕ) → List ℕ → List ℕ
+abbrev pub between : Option (List ℕ) → List ℕ → List ℕ
 between None suffix = []
 between (Some rest) suffix = up_to suffix rest
 
 -- the text between the first prefix and the first suffix from there on; to the end where the suffix is empty;
 -- with no occurrence of either it is empty
-abbrev pub extracted : List ℕ → List ℕ → List ℕ
-extracted text template = between (behind_text (prefix_of template) text) (suffix_of template)
+abbrev pub extracted : List ℕ → List ℕ → List ℕ → List ℕ
+extracted prefix suffix text = between (behind_text prefix text) suffix

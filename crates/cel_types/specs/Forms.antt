@@ -107,7 +107,7 @@ own_method name arguments =
     else (if bytes_eq name (codes "endsWith") then Some form.EndsWith
     else (if bytes_eq name (codes "extract") then Some form.Extract
     else (if bytes_eq name (codes "hasOnly") then Some form.HasOnly
-    else option_map form.PartIn (time_part name)))))
+    else option_map form.Part (time_part name)))))
     else None)
 
 abbrev pub tagged : Option TagFunction → ℕ → Option Form → Option Form

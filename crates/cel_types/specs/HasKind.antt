@@ -17,7 +17,7 @@ use Rattle.cel_types.specs.declared.kind.Base.{Base}
 use Rattle.cel_types.specs.declared.kind.Base.TheVariants.{Bool as TruthBase}
 use Rattle.cel_types.specs.declared.kind.Kind.{Kind}
 use Rattle.cel_types.specs.declared.kind.Kind.TheVariants.{One, Many}
-use Rattle.cel_types.specs.declared.kind.Place.{Place}
+use Rattle.cel_types.specs.Sight.{Sight}
 use Rattle.cel_types.specs.Arguments.{arguments_of, has_literals, has_template, has_zone}
 use Rattle.cel_types.specs.Forms.{form_of, attribute_of, is_whole}
 use Rattle.cel_types.specs.Kinds.{truth, int, str, time, length, strs, attribute_kind}
@@ -102,59 +102,59 @@ pub data KindFrom : Form → List Kind → Kind → Type 0 where
   ends_with : KindFrom form.EndsWith (str ∷ str ∷ []) truth
   extract : KindFrom form.Extract (str ∷ str ∷ []) str
   part : {p : TimePart} → KindFrom (form.Part p) (time ∷ []) int
-  part_in : {p : TimePart} → KindFrom (form.PartIn p) (time ∷ str ∷ []) int
+  part_in : {p : TimePart} → KindFrom (form.Part p) (time ∷ str ∷ []) int
   tag : {f : TagFunction} {ks : List Kind} → KindFrom (form.Tag f) ks truth
   modified : {ks : List Kind} → KindFrom form.Modified ks strs
   has_only : KindFrom form.HasOnly (strs ∷ strs ∷ []) truth
 
 -- a node of this form may stand in the place, and its literal arguments are well formed
-pub record Fits (place : Place) (f : Form) (arguments : List Expr) : Type 0 where
-  pub here : IsTrue (stands_in place f)
+pub record Fits (sight : Sight) (f : Form) (arguments : List Expr) : Type 0 where
+  pub here : IsTrue (stands_in sight.place f)
   pub literals : IsTrue (has_literals f arguments)
   pub template : IsTrue (has_template f arguments)
   pub zone : IsTrue (has_zone f arguments)
 
 mutual
   -- the tree has the kind in the place
-  pub data HasKind (place : Place) : Expr → Kind → Type 0 where
+  pub data HasKind (sight : Sight) : Expr → Kind → Type 0 where
     node : {e : Expr} {f : Form} {ks : List Kind} {k : Kind} → form_of (out-Expr e) ≡ Some f
-        → Fits place f (arguments_of (out-Expr e)) → HaveKinds place (children e) ks → KindFrom f ks k → HasKind place e k
+        → Fits sight f (arguments_of (out-Expr e)) → HaveKinds sight (children e) ks → KindFrom f ks k → HasKind sight e k
 
   -- the trees have the kinds, one each
-  pub data HaveKinds (place : Place) : List Expr → List Kind → Type 0 where
-    none : HaveKinds place [] []
-    more : {e : Expr} {es : List Expr} {k : Kind} {ks : List Kind} → HasKind place e k → HaveKinds place es ks
-        → HaveKinds place (e ∷ es) (k ∷ ks)
+  pub data HaveKinds (sight : Sight) : List Expr → List Kind → Type 0 where
+    none : HaveKinds sight [] []
+    more : {e : Expr} {es : List Expr} {k : Kind} {ks : List Kind} → HasKind sight e k → HaveKinds sight es ks
+        → HaveKinds sight (e ∷ es) (k ∷ ks)
 
 -- what is wrong with a form that may not stand here with these arguments, or whose parts are of other kinds
-abbrev pub misfit : Place → Form → List Expr → TypeKind
-misfit place f arguments =
-    if not (stands_in place f) then NotHere
+abbrev pub misfit : Sight → Form → List Expr → TypeKind
+misfit sight f arguments =
+    if not (stands_in sight.place f) then NotHere
     else (if not (has_literals f arguments) then NotLiteral
     else (if not (has_template f arguments) then BadTemplate
     else (if not (has_zone f arguments) then BadZone else WrongKind)))
 
-abbrev pub fault_in : Option Form → Place → List Expr → TypeKind
-fault_in None place arguments = UnknownName
-fault_in (Some f) place arguments = misfit place f arguments
+abbrev pub fault_in : Option Form → Sight → List Expr → TypeKind
+fault_in None sight arguments = UnknownName
+fault_in (Some f) sight arguments = misfit sight f arguments
 
 -- what is wrong with a node that has no kind although its parts have kinds
-abbrev pub fault_of : Place → Expr → TypeKind
-fault_of place e = fault_in (form_of (out-Expr e)) place (arguments_of (out-Expr e))
+abbrev pub fault_of : Sight → Expr → TypeKind
+fault_of sight e = fault_in (form_of (out-Expr e)) sight (arguments_of (out-Expr e))
 
 mutual
   -- the fault of the first node that has no kind: parts before the whole, left before right
-  pub data FirstFault (place : Place) : Expr → TypeFault → Type 0 where
-    inside : {e : Expr} {fault : TypeFault} → FirstFaultAmong place (children e) fault → FirstFault place e fault
-    here : {e : Expr} {ks : List Kind} → HaveKinds place (children e) ks → ((k : Kind) → ¬ HasKind place e k)
-        → FirstFault place e (record { offset = (span_of e).from; kind = fault_of place e })
+  pub data FirstFault (sight : Sight) : Expr → TypeFault → Type 0 where
+    inside : {e : Expr} {fault : TypeFault} → FirstFaultAmong sight (children e) fault → FirstFault sight e fault
+    here : {e : Expr} {ks : List Kind} → HaveKinds sight (children e) ks → ((k : Kind) → ¬ HasKind sight e k)
+        → FirstFault sight e (record { offset = (span_of e).from; kind = fault_of sight e })
 
-  pub data FirstFaultAmong (place : Place) : List Expr → TypeFault → Type 0 where
-    first : {e : Expr} {es : List Expr} {fault : TypeFault} → FirstFault place e fault → FirstFaultAmong place (e ∷ es) fault
-    later : {e : Expr} {es : List Expr} {k : Kind} {fault : TypeFault} → HasKind place e k → FirstFaultAmong place es fault
-        → FirstFaultAmong place (e ∷ es) fault
+  pub data FirstFaultAmong (sight : Sight) : List Expr → TypeFault → Type 0 where
+    first : {e : Expr} {es : List Expr} {fault : TypeFault} → FirstFault sight e fault → FirstFaultAmong sight (e ∷ es) fault
+    later : {e : Expr} {es : List Expr} {k : Kind} {fault : TypeFault} → HasKind sight e k → FirstFaultAmong sight es fault
+        → FirstFaultAmong sight (e ∷ es) fault
 
 -- why a tree is no condition in the place: its first fault, or its kind
-pub data IsFaultOf (place : Place) (e : Expr) : TypeFault → Type 0 where
-  first : {fault : TypeFault} → FirstFault place e fault → IsFaultOf place e fault
-  not_bool : {k : Kind} → HasKind place e k → k ≢ truth → IsFaultOf place e (record { offset = (span_of e).from; kind = NotBool })
+pub data IsFaultOf (sight : Sight) (e : Expr) : TypeFault → Type 0 where
+  first : {fault : TypeFault} → FirstFault sight e fault → IsFaultOf sight e fault
+  not_bool : {k : Kind} → HasKind sight e k → k ≢ truth → IsFaultOf sight e (record { offset = (span_of e).from; kind = NotBool })

@@ -11,6 +11,7 @@ use Rattle.cel_types.specs.declared.checking.TypeKind.{TypeKind}
 use Rattle.cel_types.specs.declared.checking.TypeKind.TheVariants.{NotBool}
 use Rattle.cel_types.specs.declared.kind.Kind.{Kind}
 use Rattle.cel_types.specs.declared.kind.Place.{Place}
+use Rattle.cel_types.specs.Sight.{Sight, sight_of}
 
 -- a fault at the first byte of a node
 abbrev pub fault_at : Expr → TypeKind → TypeFault
@@ -21,9 +22,9 @@ at_node e (Ok k) = Ok k
 at_node e (Err what) = Err (fault_at e what)
 
 -- the kind of a node whose parts have these kinds, or the first fault
-abbrev pub from_parts : Place → Expr → Result (List Kind) TypeFault → Result Kind TypeFault
-from_parts place e (Err fault) = Err fault
-from_parts place e (Ok ks) = at_node e (node_kind place (out-Expr e) ks)
+abbrev pub from_parts : Sight → Expr → Result (List Kind) TypeFault → Result Kind TypeFault
+from_parts sight e (Err fault) = Err fault
+from_parts sight e (Ok ks) = at_node e (node_kind sight (out-Expr e) ks)
 
 abbrev pub with_first : Kind → Result (List Kind) TypeFault → Result (List Kind) TypeFault
 with_first k (Ok ks) = Ok (k ∷ ks)
@@ -36,12 +37,12 @@ all_kinds (Err fault ∷ others) = Err fault
 all_kinds (Ok k ∷ others) = with_first k (all_kinds others)
 
 -- within so many steps down, which are enough for a tree of no more nodes
-abbrev pub kind_within : ℕ → Place → Expr → Result Kind TypeFault
-kind_within zero place e = from_parts place e (Ok [])
-kind_within (suc n) place e = from_parts place e (all_kinds (map (kind_within n place) (children e)))
+abbrev pub kind_within : ℕ → Sight → Expr → Result Kind TypeFault
+kind_within zero sight e = from_parts sight e (Ok [])
+kind_within (suc n) sight e = from_parts sight e (all_kinds (map (kind_within n sight) (children e)))
 
-abbrev pub kind_of : Place → Expr → Result Kind TypeFault
-kind_of place e = kind_within (size e) place e
+abbrev pub kind_of : Sight → Expr → Result Kind TypeFault
+kind_of sight e = kind_within (size e) sight e
 
 abbrev pub condition_or_fault : Place → Expr → Result Kind TypeFault → Result Condition TypeFault
 condition_or_fault place e (Err fault) = Err fault
@@ -50,4 +51,4 @@ condition_or_fault place e (Ok k) =
 
 -- a condition, or why the tree is none
 abbrev pub checked : Place → Expr → Result Condition TypeFault
-checked place e = condition_or_fault place e (kind_of place e)
+checked place e = condition_or_fault place e (kind_of (sight_of place) e)

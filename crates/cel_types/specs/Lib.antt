@@ -4,6 +4,7 @@ pub mod Zone
 pub mod Template
 pub mod Arguments
 pub mod Places
+pub mod Sight
 pub mod HasKind
 pub mod Rows
 pub mod Nodes
@@ -14,6 +15,7 @@ pub mod Calendar
 pub mod TimeText
 pub mod Extract
 pub mod Tags
+pub mod Heads
 pub mod Setting
 pub mod Means
 pub mod OfKind

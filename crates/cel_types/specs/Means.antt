@@ -16,20 +16,17 @@ use Rattle.cel_value.specs.declared.value.Value.{Value, out-Value}
 use Rattle.cel_value.specs.declared.value.Value.TheOpen.{Value-F}
 use Rattle.cel_value.specs.declared.value.Value.TheVariants as value
 use Rattle.cel_types.specs.declared.form.Attribute.{Attribute}
-use Rattle.cel_types.specs.declared.form.Form.{Form}
-use Rattle.cel_types.specs.declared.form.Form.TheVariants as form
 use Rattle.cel_types.specs.declared.form.TagFunction.{TagFunction}
 use Rattle.cel_types.specs.declared.form.TimePart.{TimePart}
-use Rattle.cel_types.specs.Arguments.{arguments_of, literal_text, text_of}
 use Rattle.cel_types.specs.Bounds.{int_outcome, time_outcome, length_outcome, quotient_outcome, remainder_outcome, nanos_of_minutes}
 use Rattle.cel_types.specs.Calendar.{HasPart}
 use Rattle.cel_types.specs.Extract.{extracted}
-use Rattle.cel_types.specs.Forms.{form_of}
+use Rattle.cel_types.specs.Heads as head
+use Rattle.cel_types.specs.Heads.{Head, head_of}
 use Rattle.cel_types.specs.HasKind.{parts}
 use Rattle.cel_types.specs.Setting.{Setting}
 use Rattle.cel_types.specs.Tags.{tag_outcome, attribute_outcome}
 use Rattle.cel_types.specs.TimeText.{timestamp_outcome, duration_outcome}
-use Rattle.cel_types.specs.Zone.{zone_minutes}
 
 abbrev below : Value-F Value → Value-F Value → Type 0
 below (Value-F.Int m) (Value-F.Int n) = m <ℤ n
@@ -46,51 +43,44 @@ IsBelow v w = below (out-Value v) (out-Value w)
 abbrev pub AllIn : List Value → List Value → Type 0
 AllIn vs ws = (v : Value) → Contains vs v → Contains ws v
 
--- the texts of literal arguments
-abbrev pub texts_of : List Expr → List (List ℕ)
-texts_of arguments = map (λ e. literal_text (out-Expr e)) arguments
-
--- what a node of a form comes to, whose parts have values. A zone is read from the literal
-pub data Applies (setting : Setting) : Form → Expr-F Expr → List Value → Outcome → Type 0 where
-  bool_literal : {span : Span} {b : Bool} → Applies setting form.Bool (Expr-F.Bool span b) [] (Given (value.Bool b))
-  int_literal : {span : Span} {n : ℤ} → Applies setting form.Int (Expr-F.Int span n) [] (Given (value.Int n))
-  str_literal : {span : Span} {s : List ℕ} → Applies setting form.Str (Expr-F.Str span s) [] (Given (value.Str s))
-  logical_not : {e : Expr-F Expr} {b : Bool} → Applies setting form.Not e (value.Bool b ∷ []) (Given (value.Bool (not b)))
-  negative : {e : Expr-F Expr} {n : ℤ} → Applies setting form.Neg e (value.Int n ∷ []) (int_outcome (neg_ℤ n))
-  int_plus_int : {e : Expr-F Expr} {m n : ℤ} → Applies setting (form.Two op.Add) e (value.Int m ∷ value.Int n ∷ []) (int_outcome (m +ℤ n))
-  int_minus_int : {e : Expr-F Expr} {m n : ℤ} → Applies setting (form.Two op.Sub) e (value.Int m ∷ value.Int n ∷ []) (int_outcome (m -ℤ n))
-  product : {e : Expr-F Expr} {m n : ℤ} → Applies setting (form.Two op.Mul) e (value.Int m ∷ value.Int n ∷ []) (int_outcome (m *ℤ n))
-  quotient : {e : Expr-F Expr} {m n : ℤ} → Applies setting (form.Two op.Div) e (value.Int m ∷ value.Int n ∷ []) (quotient_outcome m n)
-  remainder : {e : Expr-F Expr} {m n : ℤ} → Applies setting (form.Two op.Rem) e (value.Int m ∷ value.Int n ∷ []) (remainder_outcome m n)
-  str_plus_str : {e : Expr-F Expr} {s t : List ℕ} → Applies setting (form.Two op.Add) e (value.Str s ∷ value.Str t ∷ []) (Given (value.Str (s ++ t)))
-  time_plus_length : {e : Expr-F Expr} {t d : ℤ} → Applies setting (form.Two op.Add) e (value.Time t ∷ value.Length d ∷ []) (time_outcome (t +ℤ d))
-  length_plus_time : {e : Expr-F Expr} {d t : ℤ} → Applies setting (form.Two op.Add) e (value.Length d ∷ value.Time t ∷ []) (time_outcome (d +ℤ t))
-  length_plus_length : {e : Expr-F Expr} {d f : ℤ} → Applies setting (form.Two op.Add) e (value.Length d ∷ value.Length f ∷ []) (length_outcome (d +ℤ f))
-  time_minus_length : {e : Expr-F Expr} {t d : ℤ} → Applies setting (form.Two op.Sub) e (value.Time t ∷ value.Length d ∷ []) (time_outcome (t -ℤ d))
-  time_minus_time : {e : Expr-F Expr} {s t : ℤ} → Applies setting (form.Two op.Sub) e (value.Time s ∷ value.Time t ∷ []) (length_outcome (s -ℤ t))
-  length_minus_length : {e : Expr-F Expr} {d f : ℤ} → Applies setting (form.Two op.Sub) e (value.Length d ∷ value.Length f ∷ []) (length_outcome (d -ℤ f))
-  equal : {e : Expr-F Expr} {v w : Value} {b : Bool} → Decides b (v ≡ w) → Applies setting (form.Two op.Eq) e (v ∷ w ∷ []) (Given (value.Bool b))
-  not_equal : {e : Expr-F Expr} {v w : Value} {b : Bool} → Decides b (v ≡ w) → Applies setting (form.Two op.Ne) e (v ∷ w ∷ []) (Given (value.Bool (not b)))
-  less : {e : Expr-F Expr} {v w : Value} {b : Bool} → Decides b (IsBelow v w) → Applies setting (form.Two op.Lt) e (v ∷ w ∷ []) (Given (value.Bool b))
-  less_or_equal : {e : Expr-F Expr} {v w : Value} {b : Bool} → Decides b (IsBelow w v) → Applies setting (form.Two op.Le) e (v ∷ w ∷ []) (Given (value.Bool (not b)))
-  greater : {e : Expr-F Expr} {v w : Value} {b : Bool} → Decides b (IsBelow w v) → Applies setting (form.Two op.Gt) e (v ∷ w ∷ []) (Given (value.Bool b))
-  greater_or_equal : {e : Expr-F Expr} {v w : Value} {b : Bool} → Decides b (IsBelow v w) → Applies setting (form.Two op.Ge) e (v ∷ w ∷ []) (Given (value.Bool (not b)))
-  member : {e : Expr-F Expr} {v w : Value} {b : Bool} (ws : List Value) → w ≡ value.Many ws → Decides b (Contains ws v)
-      → Applies setting (form.Two op.In) e (v ∷ w ∷ []) (Given (value.Bool b))
-  list : {e : Expr-F Expr} {vs : List Value} → Applies setting form.List e vs (Given (value.Many vs))
-  attribute : {e : Expr-F Expr} {a : Attribute} → Applies setting (form.Attribute a) e [] (attribute_outcome setting.context a)
-  timestamp : {e : Expr-F Expr} {s : List ℕ} → Applies setting form.Timestamp e (value.Str s ∷ []) (timestamp_outcome s)
-  duration : {e : Expr-F Expr} {s : List ℕ} → Applies setting form.Duration e (value.Str s ∷ []) (duration_outcome s)
-  begins : {e : Expr-F Expr} {s t : List ℕ} → Applies setting form.StartsWith e (value.Str s ∷ value.Str t ∷ []) (Given (value.Bool (starts_with nat_eq s t)))
-  ends : {e : Expr-F Expr} {s t : List ℕ} → Applies setting form.EndsWith e (value.Str s ∷ value.Str t ∷ []) (Given (value.Bool (ends_with nat_eq s t)))
-  extract : {e : Expr-F Expr} {s t : List ℕ} → Applies setting form.Extract e (value.Str s ∷ value.Str t ∷ []) (Given (value.Str (extracted s t)))
-  part : {e : Expr-F Expr} {p : TimePart} {t : ℤ} {o : Outcome} → HasPart p t o → Applies setting (form.Part p) e (value.Time t ∷ []) o
-  part_in : {e : Expr-F Expr} {p : TimePart} {t m : ℤ} {z : List ℕ} {o : Outcome} → zone_minutes (text_of (arguments_of e)) ≡ Some m → HasPart p (t +ℤ nanos_of_minutes m) o
-      → Applies setting (form.PartIn p) e (value.Time t ∷ value.Str z ∷ []) o
-  tag : {e : Expr-F Expr} {f : TagFunction} → Applies setting (form.Tag f) e [] (tag_outcome setting.context f (texts_of (arguments_of e)))
-  modified : {e : Expr-F Expr} → Applies setting form.Modified e [] (Given (value.Many (map (λ s. value.Str s) setting.context.modified)))
-  has_only : {e : Expr-F Expr} {v w : Value} {b : Bool} (vs ws : List Value) → v ≡ value.Many vs → w ≡ value.Many ws → Decides b (AllIn vs ws)
-      → Applies setting form.HasOnly e (v ∷ w ∷ []) (Given (value.Bool b))
+-- what a node of this head comes to, whose parts have values. A node without parts has no values there, and a literal
+-- argument's value stands behind the others, since the head has the literal
+pub data Applies (setting : Setting) : Head → List Value → Outcome → Type 0 where
+  bool_literal : {b : Bool} {vs : List Value} → Applies setting (head.bool b) vs (Given (value.Bool b))
+  int_literal : {n : ℤ} {vs : List Value} → Applies setting (head.int n) vs (Given (value.Int n))
+  str_literal : {s : List ℕ} {vs : List Value} → Applies setting (head.str s) vs (Given (value.Str s))
+  logical_not : {b : Bool} → Applies setting head.not (value.Bool b ∷ []) (Given (value.Bool (not b)))
+  negative : {n : ℤ} → Applies setting head.negative (value.Int n ∷ []) (int_outcome (neg_ℤ n))
+  int_plus_int : {m n : ℤ} → Applies setting (head.two op.Add) (value.Int m ∷ value.Int n ∷ []) (int_outcome (m +ℤ n))
+  int_minus_int : {m n : ℤ} → Applies setting (head.two op.Sub) (value.Int m ∷ value.Int n ∷ []) (int_outcome (m -ℤ n))
+  product : {m n : ℤ} → Applies setting (head.two op.Mul) (value.Int m ∷ value.Int n ∷ []) (int_outcome (m *ℤ n))
+  quotient : {m n : ℤ} → Applies setting (head.two op.Div) (value.Int m ∷ value.Int n ∷ []) (quotient_outcome m n)
+  remainder : {m n : ℤ} → Applies setting (head.two op.Rem) (value.Int m ∷ value.Int n ∷ []) (remainder_outcome m n)
+  str_plus_str : {s t : List ℕ} → Applies setting (head.two op.Add) (value.Str s ∷ value.Str t ∷ []) (Given (value.Str (s ++ t)))
+  time_plus_length : {t d : ℤ} → Applies setting (head.two op.Add) (value.Time t ∷ value.Length d ∷ []) (time_outcome (t +ℤ d))
+  length_plus_time : {d t : ℤ} → Applies setting (head.two op.Add) (value.Length d ∷ value.Time t ∷ []) (time_outcome (d +ℤ t))
+  length_plus_length : {d f : ℤ} → Applies setting (head.two op.Add) (value.Length d ∷ value.Length f ∷ []) (length_outcome (d +ℤ f))
+  time_minus_length : {t d : ℤ} → Applies setting (head.two op.Sub) (value.Time t ∷ value.Length d ∷ []) (time_outcome (t -ℤ d))
+  time_minus_time : {s t : ℤ} → Applies setting (head.two op.Sub) (value.Time s ∷ value.Time t ∷ []) (length_outcome (s -ℤ t))
+  length_minus_length : {d f : ℤ} → Applies setting (head.two op.Sub) (value.Length d ∷ value.Length f ∷ []) (length_outcome (d -ℤ f))
+  equal : {v w : Value} {b : Bool} → Decides b (v ≡ w) → Applies setting (head.two op.Eq) (v ∷ w ∷ []) (Given (value.Bool b))
+  not_equal : {v w : Value} {b : Bool} → Decides b (v ≡ w) → Applies setting (head.two op.Ne) (v ∷ w ∷ []) (Given (value.Bool (not b)))
+  less : {v w : Value} {b : Bool} → Decides b (IsBelow v w) → Applies setting (head.two op.Lt) (v ∷ w ∷ []) (Given (value.Bool b))
+  less_or_equal : {v w : Value} {b : Bool} → Decides b (IsBelow w v) → Applies setting (head.two op.Le) (v ∷ w ∷ []) (Given (value.Bool (not b)))
+  greater : {v w : Value} {b : Bool} → Decides b (IsBelow w v) → Applies setting (head.two op.Gt) (v ∷ w ∷ []) (Given (value.Bool b))
+  greater_or_equal : {v w : Value} {b : Bool} → Decides b (IsBelow v w) → Applies setting (head.two op.Ge) (v ∷ w ∷ []) (Given (value.Bool (not b)))
+  member : {v w : Value} {b : Bool} (ws : List Value) → w ≡ value.Many ws → Decides b (Contains ws v) → Applies setting (head.two op.In) (v ∷ w ∷ []) (Given (value.Bool b))
+  list : {vs : List Value} → Applies setting head.list vs (Given (value.Many vs))
+  attribute : {a : Attribute} {vs : List Value} → Applies setting (head.attribute a) vs (attribute_outcome setting.context a)
+  timestamp : {s : List ℕ} → Applies setting head.timestamp (value.Str s ∷ []) (timestamp_outcome s)
+  duration : {s : List ℕ} → Applies setting head.duration (value.Str s ∷ []) (duration_outcome s)
+  begins : {s t : List ℕ} → Applies setting head.starts_with (value.Str s ∷ value.Str t ∷ []) (Given (value.Bool (starts_with nat_eq s t)))
+  ends : {s t : List ℕ} → Applies setting head.ends_with (value.Str s ∷ value.Str t ∷ []) (Given (value.Bool (ends_with nat_eq s t)))
+  extract : {prefix suffix s : List ℕ} {template : Value} → Applies setting (head.extract prefix suffix) (value.Str s ∷ template ∷ []) (Given (value.Str (extracted prefix suffix s)))
+  part : {p : TimePart} {m t : ℤ} {zone : List Value} {o : Outcome} → HasPart p (t +ℤ nanos_of_minutes m) o → Applies setting (head.part p m) (value.Time t ∷ zone) o
+  tag : {f : TagFunction} {key asked : List ℕ} {vs : List Value} → Applies setting (head.tag f key asked) vs (tag_outcome setting.context f key asked)
+  modified : {vs : List Value} → Applies setting head.modified vs (Given (value.Many (map (λ s. value.Str s) setting.context.modified)))
+  has_only : {v w : Value} {b : Bool} (vs ws : List Value) → v ≡ value.Many vs → w ≡ value.Many ws → Decides b (AllIn vs ws) → Applies setting head.has_only (v ∷ w ∷ []) (Given (value.Bool b))
 
 abbrev pub value_is : Bool → Value-F Value → Bool
 value_is b (Value-F.Bool v) = if b then v else not v
@@ -124,10 +114,10 @@ is_strict (Expr-F.Two span op.Or a b) = false
 is_strict (Expr-F.Pick span condition picked other) = false
 is_strict _ = true
 
--- a strict form stops with its parts, or applies to their values
-pub data Concludes (setting : Setting) (f : Form) (e : Expr-F Expr) : Result (List Value) EvalFault → Outcome → Type 0 where
-  stops : {fault : EvalFault} → Concludes setting f e (Err fault) (Stopped fault)
-  gives : {vs : List Value} {o : Outcome} → Applies setting f e vs o → Concludes setting f e (Ok vs) o
+-- a strict node stops with its parts, or applies to their values
+pub data Concludes (setting : Setting) (h : Head) : Result (List Value) EvalFault → Outcome → Type 0 where
+  stops : {fault : EvalFault} → Concludes setting h (Err fault) (Stopped fault)
+  gives : {vs : List Value} {o : Outcome} → Applies setting h vs o → Concludes setting h (Ok vs) o
 
 mutual
   -- the tree comes to the outcome in the setting
@@ -142,8 +132,8 @@ mutual
     picked : {span : Span} {d a b : Expr} {o : Outcome} → Means setting d (Given (value.Bool true)) → Means setting a o → MeansAt setting (Expr-F.Pick span d a b) o
     other : {span : Span} {d a b : Expr} {o : Outcome} → Means setting d (Given (value.Bool false)) → Means setting b o → MeansAt setting (Expr-F.Pick span d a b) o
     undecided : {span : Span} {d a b : Expr} {fault : EvalFault} → Means setting d (Stopped fault) → MeansAt setting (Expr-F.Pick span d a b) (Stopped fault)
-    strict : {e : Expr-F Expr} {f : Form} {r : Result (List Value) EvalFault} {o : Outcome} → is_strict e ≡ true → form_of e ≡ Some f
-        → PartsMean setting (parts e) r → Concludes setting f e r o → MeansAt setting e o
+    strict : {e : Expr-F Expr} {h : Head} {r : Result (List Value) EvalFault} {o : Outcome} → is_strict e ≡ true → head_of e ≡ Some h
+        → PartsMean setting (parts e) r → Concludes setting h r o → MeansAt setting e o
 
   -- the parts have values, or the first one that stops does so with this fault
   pub data PartsMean (setting : Setting) : List Expr → Result (List Value) EvalFault → Type 0 where

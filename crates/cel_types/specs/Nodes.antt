@@ -6,7 +6,7 @@ use Rattle.cel_types.specs.declared.checking.TypeKind.{TypeKind}
 use Rattle.cel_types.specs.declared.checking.TypeKind.TheVariants.{UnknownName, NotHere, NotLiteral, BadTemplate, BadZone, WrongKind}
 use Rattle.cel_types.specs.declared.form.Form.{Form}
 use Rattle.cel_types.specs.declared.kind.Kind.{Kind}
-use Rattle.cel_types.specs.declared.kind.Place.{Place}
+use Rattle.cel_types.specs.Sight.{Sight}
 use Rattle.cel_types.specs.Arguments.{arguments_of, has_literals, has_template, has_zone}
 use Rattle.cel_types.specs.Forms.{form_of}
 use Rattle.cel_types.specs.HasKind.{HaveKinds}
@@ -19,19 +19,19 @@ kind_or_fault None = Err WrongKind
 kind_or_fault (Some k) = Ok k
 
 -- what is wrong with a form that may not stand here with these arguments, else the kind, if there is one
-abbrev pub fitting : Place → Form → List Expr → Option Kind → Result Kind TypeKind
-fitting place f arguments kind =
-    if not (stands_in place f) then Err NotHere
+abbrev pub fitting : Sight → Form → List Expr → Option Kind → Result Kind TypeKind
+fitting sight f arguments kind =
+    if not (stands_in sight.place f) then Err NotHere
     else (if not (has_literals f arguments) then Err NotLiteral
     else (if not (has_template f arguments) then Err BadTemplate
     else (if not (has_zone f arguments) then Err BadZone else kind_or_fault kind)))
 
-abbrev pub form_kind : Option Form → Place → List Expr → List Kind → Result Kind TypeKind
-form_kind None place arguments ks = Err UnknownName
-form_kind (Some f) place arguments ks = fitting place f arguments (kind_from f ks)
+abbrev pub form_kind : Option Form → Sight → List Expr → List Kind → Result Kind TypeKind
+form_kind None sight arguments ks = Err UnknownName
+form_kind (Some f) sight arguments ks = fitting sight f arguments (kind_from f ks)
 
-abbrev pub node_kind : Place → Expr-F Expr → List Kind → Result Kind TypeKind
-node_kind place e ks = form_kind (form_of e) place (arguments_of e) ks
+abbrev pub node_kind : Sight → Expr-F Expr → List Kind → Result Kind TypeKind
+node_kind sight e ks = form_kind (form_of e) sight (arguments_of e) ks
 
 -- the second kind where it differs from the first, else the one so far
 abbrev pub differing : Kind → Kind → Kind → Kind
@@ -43,5 +43,5 @@ kept [] = None
 kept (first ∷ ks) = Some (first, fold (differing first) first ks)
 
 -- what is kept of the kinds of a list of nodes
-abbrev pub Keeps : Place → List Expr → Option (Kind × Kind) → Type 0
-Keeps place exprs pair = (ks : List Kind) × HaveKinds place exprs ks × (pair ≡ kept ks)
+abbrev pub Keeps : Sight → List Expr → Option (Kind × Kind) → Type 0
+Keeps sight exprs pair = (ks : List Kind) × HaveKinds sight exprs ks × (pair ≡ kept ks)

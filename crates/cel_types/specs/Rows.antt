@@ -71,6 +71,11 @@ abbrev pub choice_kind : List Kind → Option Kind
 choice_kind (condition ∷ k ∷ l ∷ []) = if is_kind condition truth && is_kind k l then Some k else None
 choice_kind _ = None
 
+-- a part of a time, maybe in a zone
+abbrev pub part_kind : List Kind → Option Kind
+part_kind (k ∷ []) = from_one time int (k ∷ [])
+part_kind ks = from_two ((time, str, int) ∷ []) ks
+
 -- the kind of a node of this form whose parts have these kinds
 abbrev pub kind_from : Form → List Kind → Option Kind
 kind_from form.Bool ks = Some truth
@@ -85,8 +90,7 @@ kind_from form.StartsWith ks = from_two ((str, str, truth) ∷ []) ks
 kind_from form.EndsWith ks = from_two ((str, str, truth) ∷ []) ks
 kind_from form.Extract ks = from_two ((str, str, str) ∷ []) ks
 kind_from form.HasOnly ks = from_two ((strs, strs, truth) ∷ []) ks
-kind_from (form.Part part) ks = from_one time int ks
-kind_from (form.PartIn part) ks = from_two ((time, str, int) ∷ []) ks
+kind_from (form.Part part) ks = part_kind ks
 kind_from form.List ks = list_kind ks
 kind_from form.Not ks = from_one truth truth ks
 kind_from form.Neg ks = from_one int int ks

@@ -49,13 +49,12 @@ abbrev pub of_key : Option KeyFact → (Option ValueFact → Bool) → Outcome
 of_key None test = Stopped UnknownTag
 of_key (Some key) test = Given (value.Bool (test key.value))
 
--- a tag function with its arguments; other numbers of arguments have no kind
-abbrev pub tag_outcome : Context → TagFunction → List (List ℕ) → Outcome
-tag_outcome c MatchTag (key ∷ short ∷ []) = of_key (key_named key c.keys) (has_short short)
-tag_outcome c MatchTagId (key ∷ id ∷ []) = of_key (key_with_id key c.keys) (has_id id)
-tag_outcome c HasTagKey (key ∷ []) = of_key (key_named key c.keys) (λ fact. is_some fact)
-tag_outcome c HasTagKeyId (key ∷ []) = of_key (key_with_id key c.keys) (λ fact. is_some fact)
-tag_outcome c _ _ = Stopped UnknownTag
+-- a tag function of a key, and what its value is to be, where the function asks for that
+abbrev pub tag_outcome : Context → TagFunction → List ℕ → List ℕ → Outcome
+tag_outcome c MatchTag key asked = of_key (key_named key c.keys) (has_short asked)
+tag_outcome c MatchTagId key asked = of_key (key_with_id key c.keys) (has_id asked)
+tag_outcome c HasTagKey key asked = of_key (key_named key c.keys) (λ fact. is_some fact)
+tag_outcome c HasTagKeyId key asked = of_key (key_with_id key c.keys) (λ fact. is_some fact)
 
 abbrev pub attribute_outcome : Context → Attribute → Outcome
 attribute_outcome c ResourceType = Given (value.Str c.resource_kind)

@@ -1,7 +1,7 @@
 // The literals that some forms take as arguments.
 ghost use Rattle.std.specs.Prelude.{◌≡◌, ◌<◌, ◌==◌, position, IfSome};
 ghost use Rattle.cel_tree.specs.declared.tree.Expr.{out-Expr};
-ghost use Rattle.cel_types.specs.Arguments.{arguments_of, is_literal, are_literals, text_of, has_literals, has_template, has_zone};
+ghost use Rattle.cel_types.specs.Arguments.{arguments_of, is_literal, are_literals, literal_text, first_text, second_text, zone_of, has_literals, has_template, has_zone};
 ghost use Rattle.cel_types.specs.Template.{is_single, is_apart, has_single_braces, has_name, is_template};
 ghost use Rattle.cel_types.specs.Zone.{two_digits, signed_minutes, offset_minutes, zone_minutes};
 
@@ -31,13 +31,43 @@ fn are_literals(exprs: &[Expr]) -> bool
     exprs.iter().all(is_literal)
 }
 
-/// The text of a string literal, and the empty one elsewhere.
-pub fn text_of(exprs: &[Expr]) -> &str
-    ensures { result.now ≡ text_of exprs.entry.now }
+// The text of a string literal, and the empty one elsewhere.
+fn literal_text(expr: &Expr) -> &str
+    ensures { result.now ≡ literal_text (out-Expr expr.entry.now) }
+{
+    match expr {
+        Expr::Str(_, text) => text.as_str(),
+        _ => "",
+    }
+}
+
+/// The text of the first argument, where it is a string literal.
+pub fn first_text(exprs: &[Expr]) -> &str
+    ensures { result.now ≡ first_text exprs.entry.now }
 {
     match exprs {
-        [Expr::Str(_, text)] => text.as_str(),
+        [first, ..] => literal_text(first),
+        [] => "",
+    }
+}
+
+/// The text of the second argument, where it is a string literal.
+pub fn second_text(exprs: &[Expr]) -> &str
+    ensures { result.now ≡ second_text exprs.entry.now }
+{
+    match exprs {
+        [_, second, ..] => literal_text(second),
         _ => "",
+    }
+}
+
+/// How many minutes the zone that is given is ahead of UTC, where it is one; without an argument it is UTC.
+pub fn zone_of(exprs: &[Expr]) -> Option<i16>
+    ensures { result ≡ zone_of exprs.now }
+{
+    match exprs {
+        [zone, ..] => zone_minutes(literal_text(zone)),
+        [] => Some(0),
     }
 }
 
@@ -48,7 +78,7 @@ pub fn has_literals(form: Form, arguments: &[Expr]) -> bool
     match form {
         Form::Tag(_) => are_literals(arguments),
         Form::Extract => are_literals(arguments),
-        Form::PartIn(_) => are_literals(arguments),
+        Form::Part(_) => are_literals(arguments),
         _ => true,
     }
 }
@@ -58,7 +88,7 @@ pub fn has_template(form: Form, arguments: &[Expr]) -> bool
     ensures { result ≡ has_template form arguments.now }
 {
     match form {
-        Form::Extract => is_template(text_of(arguments)),
+        Form::Extract => is_template(first_text(arguments)),
         _ => true,
     }
 }
@@ -68,7 +98,7 @@ pub fn has_zone(form: Form, arguments: &[Expr]) -> bool
     ensures { result ≡ has_zone form arguments.now }
 {
     match form {
-        Form::PartIn(_) => zone_minutes(text_of(arguments)).is_some(),
+        Form::Part(_) => zone_of(arguments).is_some(),
         _ => true,
     }
 }
@@ -163,8 +193,8 @@ pub fn offset_minutes(text: &[u8]) -> Option<i16>
     }
 }
 
-/// How many minutes a zone's clock is ahead of UTC.
-pub fn zone_minutes(zone: &str) -> Option<i16>
+// How many minutes a zone's clock is ahead of UTC.
+fn zone_minutes(zone: &str) -> Option<i16>
     ensures { result ≡ zone_minutes zone.now }
 {
     if zone == "UTC" {

@@ -4,6 +4,7 @@ ghost use Rattle.cel_types.specs.HasKind.{HasKind, FirstFault, FirstFaultAmong, 
 ghost use Rattle.cel_types.specs.KindOf.{at_node, checked};
 ghost use Rattle.cel_types.specs.Kinds.{truth};
 ghost use Rattle.cel_types.specs.Nodes.{node_kind, differing, Keeps};
+ghost use Rattle.cel_types.specs.Sight.{sight_of};
 
 use crate::arguments::{arguments_of, has_literals, has_template, has_zone};
 use crate::form::{attribute_of, form_of, is_whole};
@@ -50,6 +51,7 @@ impl Model for Typed {
     ghost use Rattle.cel_types.specs.Condition.{Condition};
     ghost use Rattle.cel_types.specs.HasKind.{HasKind};
     ghost use Rattle.cel_types.specs.Kinds.{truth};
+    ghost use Rattle.cel_types.specs.Sight.{sight_of};
     ghost use Rattle.cel_tree.specs.contracts.tree.Expr as trees;
     ghost use Rattle.std.specs.Coded.{codes};
 
@@ -59,14 +61,14 @@ impl Model for Typed {
 
     ghost view = { λ t. record { expr = t.expr; place = t.place } };
 
-    ghost invariant = { λ t. HasKind t.place t.expr truth };
+    ghost invariant = { λ t. HasKind (sight_of t.place) t.expr truth };
 }
 
 impl Typed {
     /// Its kind in its place is Bool.
     pub fn expr(&self) -> &Expr
         ensures value { result.now ≡ self.now.expr }
-        ensures typed { HasKind self.now.place self.now.expr truth }
+        ensures typed { HasKind (sight_of self.now.place) self.now.expr truth }
     {
         &self.expr
     }
@@ -81,9 +83,9 @@ impl Typed {
 /// Whether an expression is a condition in a place. One that isn't is dropped.
 pub fn check(expr: Expr, place: Place) -> Result<Typed, TypeFault>
     ensures value { result ≡ checked place expr }
-    ensures exact { IsOk result ↔ HasKind place expr truth }
+    ensures exact { IsOk result ↔ HasKind (sight_of place) expr truth }
     ensures typed { IfOk result (λ t. (t.expr ≡ expr) × (t.place ≡ place)) }
-    ensures fault { IfErr result (IsFaultOf place expr) }
+    ensures fault { IfErr result (IsFaultOf (sight_of place) expr) }
 {
     match kind_of(&expr, place) {
         Ok(kind) => {
@@ -101,7 +103,7 @@ pub fn check(expr: Expr, place: Place) -> Result<Typed, TypeFault>
 
 // The kind of a node whose parts have these kinds, or what is wrong with it.
 fn node_kind(expr: &Expr, place: Place, kinds: &[Kind]) -> Result<Kind, TypeKind>
-    ensures { result ≡ node_kind place (out-Expr expr.now) kinds.now }
+    ensures { result ≡ node_kind (sight_of place) (out-Expr expr.now) kinds.now }
 {
     let Some(form) = form_of(expr) else {
         return Err(TypeKind::UnknownName);
@@ -127,7 +129,7 @@ fn node_kind(expr: &Expr, place: Place, kinds: &[Kind]) -> Result<Kind, TypeKind
 
 // The same, with the fault at the first byte of the node.
 fn node(expr: &Expr, place: Place, kinds: &[Kind]) -> Result<Kind, TypeFault>
-    ensures { result ≡ at_node expr.now (node_kind place (out-Expr expr.now) kinds.now) }
+    ensures { result ≡ at_node expr.now (node_kind (sight_of place) (out-Expr expr.now) kinds.now) }
 {
     match node_kind(expr, place, kinds) {
         Ok(kind) => Ok(kind),
@@ -140,7 +142,7 @@ fn node(expr: &Expr, place: Place, kinds: &[Kind]) -> Result<Kind, TypeFault>
 
 #[cycle(kinds)]
 fn kind_of(expr: &Expr, place: Place) -> Result<Kind, TypeFault>
-    ensures { MatchResult result (HasKind place expr.now) (FirstFault place expr.now) }
+    ensures { MatchResult result (HasKind (sight_of place) expr.now) (FirstFault (sight_of place) expr.now) }
 {
     match expr {
         Expr::Bool(..) | Expr::Int(..) | Expr::Str(..) | Expr::Name(..) => node(expr, place, &[]),
@@ -195,7 +197,7 @@ fn differing(first: Kind, so_far: Kind, kind: Kind) -> Kind
 // for less, since no form has two arguments.
 #[cycle(kinds)]
 fn kinds_among(exprs: &[Expr], place: Place) -> Result<Option<(Kind, Kind)>, TypeFault>
-    ensures { MatchResult result (Keeps place exprs.now) (FirstFaultAmong place exprs.now) }
+    ensures { MatchResult result (Keeps (sight_of place) exprs.now) (FirstFaultAmong (sight_of place) exprs.now) }
 {
     let [first, rest @ ..] = exprs else {
         return Ok(None);

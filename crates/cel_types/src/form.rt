@@ -56,10 +56,8 @@ pub enum Form {
     EndsWith,
     Extract,
     HasOnly,
-    /// `getHours()` and the like
+    /// `getHours()` and the like, maybe with a zone
     Part(TimePart),
-    /// the same with a zone
-    PartIn(TimePart),
     List,
     Not,
     Neg,
@@ -273,7 +271,7 @@ fn own_method(name: &str, arguments: usize) -> Option<Form>
         "hasOnly" => Some(Form::HasOnly),
         _ => {
             let part = time_part(name)?;
-            Some(Form::PartIn(part))
+            Some(Form::Part(part))
         }
     }
 }

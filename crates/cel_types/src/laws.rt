@@ -1,5 +1,5 @@
 // Laws of the definitions, each the contract of a function that does nothing.
-ghost use Rattle.cel_types.specs.Laws.{AtMostOneKind, FaultsHaveNoKind, AtMostOneFault, ConditionsHaveNoFault, KindsAreComputed, FaultsAreComputed, AtMostOneOutcome, OutcomesAreOfTheKind, ConditionsComeToTruths};
+ghost use Rattle.cel_types.specs.Laws.{AtMostOneKind, FaultsHaveNoKind, AtMostOneFault, ConditionsHaveNoFault, KindsAreComputed, FaultsAreComputed, KindsHaveHeads, AtMostOneOutcome, OutcomesAreOfTheKind, ConditionsComeToTruths};
 
 /// A tree has at most one kind in a place.
 pub fn at_most_one_kind()
@@ -25,6 +25,11 @@ pub fn conditions_have_no_fault()
 pub fn kinds_are_computed()
     ensures kind { KindsAreComputed }
     ensures fault { FaultsAreComputed }
+{}
+
+/// A tree that has a kind has a head.
+pub fn kinds_have_heads()
+    ensures { KindsHaveHeads }
 {}
 
 /// A tree comes to at most one outcome in a context.

@@ -15,7 +15,7 @@ mod place;
 mod rows;
 mod unit;
 
-pub use arguments::{arguments_of, offset_minutes, text_of, two_digits, zone_minutes};
+pub use arguments::{first_text, offset_minutes, second_text, two_digits, zone_of};
 pub use cel_value::{
     Context, EvalFault, Facts, KeyAnswer, KeyFact, Outcome, Value, ValueFact, Verdict,
 };
@@ -24,6 +24,7 @@ pub use form::{Attribute, Form, TagFunction, TimePart, attribute_of, form_of, is
 pub use kind::{Base, Kind, Place};
 pub use laws::{
     at_most_one_fault, at_most_one_kind, at_most_one_outcome, conditions_come_to_truths,
-    conditions_have_no_fault, faults_have_no_kind, kinds_are_computed, outcomes_are_of_the_kind,
+    conditions_have_no_fault, faults_have_no_kind, kinds_are_computed, kinds_have_heads,
+    outcomes_are_of_the_kind,
 };
 pub use unit::TimeUnit;

@@ -1,7 +1,7 @@
 // The table of kinds: which kind a node has whose parts have given kinds.
 ghost use Rattle.std.specs.Prelude.{◌≡◌};
 ghost use Rattle.cel_types.specs.Kinds.{is_kind, attribute_kind};
-ghost use Rattle.cel_types.specs.Rows.{from_one, look_up, from_two, equal_kind, operator_kind, many_of, list_kind, choice_kind, kind_from};
+ghost use Rattle.cel_types.specs.Rows.{from_one, look_up, from_two, equal_kind, operator_kind, many_of, list_kind, choice_kind, part_kind, kind_from};
 
 use crate::{Attribute, Base, Form, Kind};
 use cel_tree::Op;
@@ -65,8 +65,7 @@ pub fn kind_from(form: Form, kinds: &[Kind]) -> Option<Kind>
         Form::EndsWith => from_two(&[(STR, STR, TRUTH)], kinds),
         Form::Extract => from_two(&[(STR, STR, STR)], kinds),
         Form::HasOnly => from_two(&[(STRS, STRS, TRUTH)], kinds),
-        Form::Part(_) => from_one(TIME, INT, kinds),
-        Form::PartIn(_) => from_two(&[(TIME, STR, INT)], kinds),
+        Form::Part(_) => part_kind(kinds),
         Form::List => list_kind(kinds),
         Form::Not => from_one(TRUTH, TRUTH, kinds),
         Form::Neg => from_one(INT, INT, kinds),
@@ -174,5 +173,15 @@ fn choice_kind(kinds: &[Kind]) -> Option<Kind>
             Some(*picked)
         }
         _ => None,
+    }
+}
+
+// A zone's literal may stand behind the time.
+fn part_kind(kinds: &[Kind]) -> Option<Kind>
+    ensures { result ≡ part_kind kinds.now }
+{
+    match kinds {
+        [_] => from_one(TIME, INT, kinds),
+        _ => from_two(&[(TIME, STR, INT)], kinds),
     }
 }

@@ -1,7 +1,7 @@
 use Rattle.std.proofs.Common.{rules, sym, ap, ◌∙◌, FitsSigned, w16}
 use Rattle.std.specs.Int.{w128}
 use Rattle.std.proofs.lemmas.Int.{to_z-of_z}
-use Rattle.cel_meaning.specs.Apply.{in_zone}
+use Rattle.cel_meaning.specs.Results.{in_zone}
 use Rattle.cel_meaning.proofs.forms.part_in_zone.Goals as goal
 
 pub returns-in-Some-minutes : goal.returns-in-Some-minutes

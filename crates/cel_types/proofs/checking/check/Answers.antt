@@ -10,6 +10,7 @@ use Rattle.cel_types.specs.KindOf.{checked, condition_or_fault, fault_at}
 use Rattle.cel_types.specs.Kinds.{is_kind, truth}
 use Rattle.cel_types.proofs.KindOf.{fault_iff, kind_iff}
 use Rattle.cel_types.proofs.OneKind.{one_kind, no_kind}
+use Rattle.cel_types.specs.Sight.{sight_of}
 use Rattle.cel_types.proofs.checking.check.Goals as goal
 
 -- the test says that the kind is another one
@@ -17,14 +18,14 @@ differs : (k : Kind) → is_kind k truth ≡ false → k ≢ truth
 differs k other e = let same = ap (λ (z : Kind). is_kind z truth) e in let P : ⊥ = cc (other, same) in P
 
 -- what is answered of a tree that has a kind, by the test of the kind, and of one that has a fault
-kinded : (place : Place) (e : Expr) (k : Kind) (b : Bool) → HasKind place e k → is_kind k truth ≡ b
+kinded : (place : Place) (e : Expr) (k : Kind) (b : Bool) → HasKind (sight_of place) e k → is_kind k truth ≡ b
     → checked place e ≡ cond b (Ok (record { expr = e; place = place })) (Err (fault_at e NotBool))
 kinded place e k b has is =
-    ap (condition_or_fault place e) ((kind_iff place e k).1 has)
+    ap (condition_or_fault place e) ((kind_iff (sight_of place) e k).1 has)
     ∙ ap (λ (z : Bool). cond z (Ok (record { expr = e; place = place })) (Err (fault_at e NotBool))) is
 
-faulted : (place : Place) (e : Expr) (fault : TypeFault) → FirstFault place e fault → checked place e ≡ Err fault
-faulted place e fault fails = ap (condition_or_fault place e) ((fault_iff place e fault).1 fails)
+faulted : (place : Place) (e : Expr) (fault : TypeFault) → FirstFault (sight_of place) e fault → checked place e ≡ Err fault
+faulted place e fault fails = ap (condition_or_fault place e) ((fault_iff (sight_of place) e fault).1 fails)
 
 pub returns-in-Ok-clause-exact : goal.returns-in-Ok-clause-exact
 returns-in-Ok-clause-exact c =
