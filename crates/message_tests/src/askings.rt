@@ -1,6 +1,6 @@
 // What messages ask for, and what is refused of them.
 use iam_json::{Call, Details, ErrorReply, answer_body};
-use iam_names::NodeName;
+use iam_names::{NodeName, PermissionName};
 use iam_routes::{Asked, Routes, asked};
 use iam_text::{List, OutOfMemory, Text, let_go};
 use iam_types::{Answer, Ask, Binding, Command};
@@ -18,7 +18,7 @@ enum Header {
 }
 
 /// The method, the target, the caller and the body of a request.
-type Request = (&'static str, &'static str, Header, &'static [u8]);
+type Request = (&'static str, &'static str, Header, &'static str);
 
 const ADA: Header = Header::One("user:ada@example.com");
 
@@ -28,7 +28,7 @@ const READ: &str = "/v3/organizations/1000:getIamPolicy";
 
 const SET: &str = "/v3/organizations/1000:setIamPolicy";
 
-const TWO: &[u8] = b"{\"permissions\":[\"a.b.c\",\"d.e.f\"]}";
+const TWO: &str = "{\"permissions\":[\"a.b.c\",\"d.e.f\"]}";
 
 /// Requests, and what is asked by each: the number of its refusal and the path of a bad member, or its caller, what it
 /// wants of which node, and what it gives as an answer would show it. A setting without an etag overwrites.
@@ -42,7 +42,7 @@ static CASES: [(Request, &str); 18] = [
         r#"anonymous tests organizations/1000 {"permissions":["a.b.c","d.e.f"]}"#,
     ),
     (
-        ("POST", READ, ADA, b""),
+        ("POST", READ, ADA, ""),
         r#"user:ada@example.com reads organizations/1000 {"bindings":[],"etag":"AAAAAAAAAAA=","version":0}"#,
     ),
     (
@@ -50,7 +50,7 @@ static CASES: [(Request, &str); 18] = [
             "POST",
             READ,
             Header::One("anonymous"),
-            br#"{"options":{"requestedPolicyVersion":3}}"#,
+            r#"{"options":{"requestedPolicyVersion":3}}"#,
         ),
         r#"anonymous reads organizations/1000 {"bindings":[],"etag":"AAAAAAAAAAA=","version":3}"#,
     ),
@@ -59,111 +59,107 @@ static CASES: [(Request, &str); 18] = [
             "POST",
             SET,
             ADA,
-            br#"{"policy":{"version":1,"etag":"AAAAAAAAAAE=","bindings":[{"role":"roles/viewer","members":["user:bob@example.com"]},{"role":"roles/editor"}]}}"#,
+            r#"{"policy":{"version":1,"etag":"AAAAAAAAAAE=","bindings":[{"role":"roles/viewer","members":["user:bob@example.com"]},{"role":"roles/editor"}]}}"#,
         ),
         r#"user:ada@example.com sets organizations/1000 {"bindings":[{"members":["user:bob@example.com"],"role":"roles/viewer"},{"members":[],"role":"roles/editor"}],"etag":"AAAAAAAAAAE=","version":1}"#,
     ),
     (
-        ("POST", SET, ADA, br#"{"policy":{}}"#),
+        ("POST", SET, ADA, r#"{"policy":{}}"#),
         r#"user:ada@example.com overwrites organizations/1000 {"bindings":[],"etag":"AAAAAAAAAAA=","version":0}"#,
     ),
-    (("PUT", "/v4/x", Header::One("bob"), b"["), "4"),
-    (("PUT", TEST, Header::One("bob"), b"["), "5"),
+    (("PUT", "/v4/x", Header::One("bob"), "["), "4"),
+    (("PUT", TEST, Header::One("bob"), "["), "5"),
     (("post", TEST, ADA, TWO), "5"),
-    (("POST", TEST, Header::One("bob"), b"["), "8"),
+    (("POST", TEST, Header::One("bob"), "["), "8"),
     (("POST", TEST, Header::Bad, TWO), "8"),
     (
         ("POST", TEST, Header::One("user:Ada@Example.com"), TWO),
         "8",
     ),
-    (("POST", TEST, ADA, b"["), "2"),
-    (("POST", TEST, ADA, b"[]"), "3 "),
-    (("POST", TEST, ADA, b""), "3 permissions"),
+    (("POST", TEST, ADA, "["), "2"),
+    (("POST", TEST, ADA, "[]"), "3 "),
+    (("POST", TEST, ADA, ""), "3 permissions"),
     (
-        ("POST", TEST, ADA, br#"{"permissions":["a.b.c","x"]}"#),
+        ("POST", TEST, ADA, r#"{"permissions":["a.b.c","x"]}"#),
         "3 permissions[1]",
     ),
-    (("POST", SET, ADA, b""), "3 policy"),
+    (("POST", SET, ADA, ""), "3 policy"),
     (
         (
             "POST",
             SET,
             ADA,
-            br#"{"policy":{"bindings":[{"role":"roles/viewer","condition":{"expression":"true"}}]}}"#,
+            r#"{"policy":{"bindings":[{"role":"roles/viewer","condition":{"expression":"true"}}]}}"#,
         ),
         "3 policy.bindings[0].condition",
     ),
 ];
 
 /// Targets, bodies, and what these ask for.
-static BODIES: [(&str, &[u8], &str); 17] = [
+static BODIES: [(&str, &str, &str); 17] = [
     (
         TEST,
-        br#"{"permissions":[]}"#,
+        r#"{"permissions":[]}"#,
         r#"user:ada@example.com tests organizations/1000 {"permissions":[]}"#,
     ),
     (
         TEST,
-        br#"{"permissions":["a.b.c","d.e.f"],"more":0}"#,
+        r#"{"permissions":["a.b.c","d.e.f"],"more":0}"#,
         r#"user:ada@example.com tests organizations/1000 {"permissions":["a.b.c","d.e.f"]}"#,
     ),
-    (
-        TEST,
-        br#"{"permissions":["a.b.c","a"]}"#,
-        "3 permissions[1]",
-    ),
+    (TEST, r#"{"permissions":["a.b.c","a"]}"#, "3 permissions[1]"),
     (
         READ,
-        br#"{"options":null}"#,
+        r#"{"options":null}"#,
         r#"user:ada@example.com reads organizations/1000 {"bindings":[],"etag":"AAAAAAAAAAA=","version":0}"#,
     ),
     (
         READ,
-        br#"{"options":{"requestedPolicyVersion":3}}"#,
+        r#"{"options":{"requestedPolicyVersion":3}}"#,
         r#"user:ada@example.com reads organizations/1000 {"bindings":[],"etag":"AAAAAAAAAAA=","version":3}"#,
     ),
-    (READ, br#"{"options":[]}"#, "3 options"),
+    (READ, r#"{"options":[]}"#, "3 options"),
     (
         READ,
-        br#"{"options":{"requestedPolicyVersion":"3"}}"#,
+        r#"{"options":{"requestedPolicyVersion":"3"}}"#,
         "3 options.requestedPolicyVersion",
     ),
     (
         SET,
-        br#"{"policy":{"auditConfigs":[],"bindings":[{"members":["user:bob@example.com"],"role":"roles/viewer"}],"etag":"AAAAAAAAAAE=","version":1}}"#,
+        r#"{"policy":{"auditConfigs":[],"bindings":[{"members":["user:bob@example.com"],"role":"roles/viewer"}],"etag":"AAAAAAAAAAE=","version":1}}"#,
         r#"user:ada@example.com sets organizations/1000 {"bindings":[{"members":["user:bob@example.com"],"role":"roles/viewer"}],"etag":"AAAAAAAAAAE=","version":1}"#,
     ),
-    (SET, br#"{"policy":0}"#, "3 policy"),
-    (SET, br#"{"policy":{"version":-1}}"#, "3 policy.version"),
-    (SET, br#"{"policy":{"etag":""}}"#, "3 policy.etag"),
+    (SET, r#"{"policy":0}"#, "3 policy"),
+    (SET, r#"{"policy":{"version":-1}}"#, "3 policy.version"),
+    (SET, r#"{"policy":{"etag":""}}"#, "3 policy.etag"),
     (
         SET,
-        br#"{"policy":{"auditConfigs":[{}]}}"#,
+        r#"{"policy":{"auditConfigs":[{}]}}"#,
         "3 policy.auditConfigs",
     ),
     (
         SET,
-        br#"{"policy":{"bindings":[{"role":"viewer"}]}}"#,
+        r#"{"policy":{"bindings":[{"role":"viewer"}]}}"#,
         "3 policy.bindings[0].role",
     ),
     (
         SET,
-        br#"{"policy":{"auditConfigs":0,"bindings":0,"etag":0,"version":[]}}"#,
+        r#"{"policy":{"auditConfigs":0,"bindings":0,"etag":0,"version":[]}}"#,
         "3 policy.version",
     ),
     (
         SET,
-        br#"{"policy":{"auditConfigs":0,"bindings":0,"etag":0}}"#,
+        r#"{"policy":{"auditConfigs":0,"bindings":0,"etag":0}}"#,
         "3 policy.etag",
     ),
     (
         SET,
-        br#"{"policy":{"auditConfigs":0,"bindings":0}}"#,
+        r#"{"policy":{"auditConfigs":0,"bindings":0}}"#,
         "3 policy.bindings",
     ),
     (
         SET,
-        br#"{"policy":{"auditConfigs":0}}"#,
+        r#"{"policy":{"auditConfigs":0}}"#,
         "3 policy.auditConfigs",
     ),
 ];
@@ -234,21 +230,21 @@ fn field_of(alloc: Global, header: Header) -> Result<Field, OutOfMemory> {
     }
 }
 
-fn body_of(alloc: Global, bytes: &[u8]) -> Result<List<u8>, OutOfMemory> {
+fn body_of(alloc: Global, text: &str) -> Result<List<u8>, OutOfMemory> {
     let mut body = List::new(alloc);
-    body.push_all(bytes)?;
+    body.push_all(text.as_bytes())?;
     Ok(body)
 }
 
 fn message_of(alloc: Global, request: Request) -> Result<Message, OutOfMemory> {
-    let (method, target, caller, bytes) = request;
+    let (method, target, caller, body) = request;
     Ok(Message {
         method: Text::of(alloc, method)?,
         target: Text::of(alloc, target)?,
         caller: field_of(alloc, caller)?,
         floor: Field::Absent,
         last: false,
-        body: body_of(alloc, bytes)?,
+        body: body_of(alloc, body)?,
     })
 }
 
@@ -257,15 +253,19 @@ fn asked_by(alloc: Global, routes: &Routes, request: Request) -> Result<Asked, O
     asked(alloc, &message, routes)
 }
 
+// The path of a bad member.
+fn bad_path(details: &Details) -> Option<&Text> {
+    match details {
+        Details::BadField { path } => Some(path),
+        _ => None,
+    }
+}
+
 // The number of a refusal, and the path of a bad member.
 fn refusal_text(alloc: Global, reply: &ErrorReply) -> Result<Text, OutOfMemory> {
-    match &reply.details {
-        Details::BadField { path } => Ok(Text::from(format!(in alloc;
-            "{} {}",
-            reply.number,
-            path.as_str()
-        )?)),
-        _ => Ok(Text::from(format!(in alloc; "{}", reply.number)?)),
+    match bad_path(&reply.details) {
+        Some(path) => Ok(Text::from(format!(in alloc; "{} {}", reply.number, path.as_str())?)),
+        None => Ok(Text::from(format!(in alloc; "{}", reply.number)?)),
     }
 }
 
@@ -289,8 +289,9 @@ fn shown(
     node: &NodeName,
     given: Answer,
 ) -> Result<Text, OutOfMemory> {
-    let node = node.text(alloc)?;
+    // The answer is let go before anything else can be refused.
     let body = body_text(alloc, given)?;
+    let node = node.text(alloc)?;
     joined(alloc, &[caller, want, node.as_str(), body.as_str()])
 }
 
@@ -312,16 +313,23 @@ fn setting(etag: Option<u64>) -> &'static str {
     if etag.is_some() { "sets" } else { "overwrites" }
 }
 
-fn call_text(alloc: Global, caller: &str, call: &Call) -> Result<Text, OutOfMemory> {
+/// What a call wants of a node.
+#[derive(Clone, Copy)]
+enum Want<'a> {
+    Test(&'a List<PermissionName>),
+    Policy(u64),
+    Setting {
+        version: u64,
+        etag: Option<u64>,
+        bindings: &'a List<Binding>,
+    },
+}
+
+// A function of its own, so that the kinds of calls are gone through once.
+fn want_of(call: &Call) -> Option<(&NodeName, Want<'_>)> {
     match call {
-        Call::Read(Ask::Test { node, permissions }) => {
-            let given = Answer::Permissions(permissions.clone()?);
-            shown(alloc, caller, "tests", node, given)
-        }
-        Call::Read(Ask::Policy { node, version }) => {
-            let given = policy(List::new(alloc), None, *version);
-            shown(alloc, caller, "reads", node, given)
-        }
+        Call::Read(Ask::Test { node, permissions }) => Some((node, Want::Test(permissions))),
+        Call::Read(Ask::Policy { node, version }) => Some((node, Want::Policy(*version))),
         Call::Write(
             Command::SetAllow {
                 node,
@@ -329,11 +337,48 @@ fn call_text(alloc: Global, caller: &str, call: &Call) -> Result<Text, OutOfMemo
                 etag,
                 bindings,
             },
-        ) => {
-            let given = policy(bindings.clone()?, *etag, *version);
-            shown(alloc, caller, setting(*etag), node, given)
+        ) => Some((
+            node,
+            Want::Setting {
+                version: *version,
+                etag: *etag,
+                bindings,
+            },
+        )),
+        _ => None,
+    }
+}
+
+fn want_text(
+    alloc: Global,
+    caller: &str,
+    node: &NodeName,
+    want: Want<'_>,
+) -> Result<Text, OutOfMemory> {
+    match want {
+        Want::Test(permissions) => {
+            let given = Answer::Permissions(permissions.clone()?);
+            shown(alloc, caller, "tests", node, given)
         }
-        _ => Text::of(alloc, "another call"),
+        Want::Policy(version) => {
+            let given = policy(List::new(alloc), None, version);
+            shown(alloc, caller, "reads", node, given)
+        }
+        Want::Setting {
+            version,
+            etag,
+            bindings,
+        } => {
+            let given = policy(bindings.clone()?, etag, version);
+            shown(alloc, caller, setting(etag), node, given)
+        }
+    }
+}
+
+fn call_text(alloc: Global, caller: &str, call: &Call) -> Result<Text, OutOfMemory> {
+    match want_of(call) {
+        Some((node, want)) => want_text(alloc, caller, node, want),
+        None => Text::of(alloc, "another call"),
     }
 }
 

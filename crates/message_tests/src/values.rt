@@ -4,7 +4,7 @@ use iam_json_data::{
     read_body, read_member, read_required, text_of,
 };
 use iam_names::{Member, PermissionName, RoleName};
-use iam_text::{List, OutOfMemory, Text};
+use iam_text::{List, OutOfMemory, Text, let_go};
 use iam_types::{Binding, Condition};
 use serde_json::Value;
 use std::alloc::Global;
@@ -87,44 +87,56 @@ fn said(alloc: Global, read: Result<Text, BodyStop>) -> Result<Text, OutOfMemory
 }
 
 /// Bodies, and the number at `n` where nothing stands at `m`.
-static NUMBERS: [(&[u8], &str); 19] = [
-    (b"", "none"),
-    (b"{}", "none"),
-    (br#" {"n" : null, "m" : null, "l" : []} "#, "none"),
-    (br#"{"n":0}"#, "0"),
-    (br#"{"n":18446744073709551615}"#, "18446744073709551615"),
-    (br#"{"n":1,"n":2}"#, "2"),
-    (br#"{"n":18446744073709551616}"#, "bad: n"),
-    (br#"{"n":-1}"#, "bad: n"),
-    (br#"{"n":1.0}"#, "bad: n"),
-    (br#"{"n":"1"}"#, "bad: n"),
-    (br#"{"n":true}"#, "bad: n"),
-    (br#"{"n":{},"m":0}"#, "bad: n"),
-    (br#"{"n":1,"m":0}"#, "bad: m"),
-    (b"[", "no JSON"),
-    (br#"{"n":01}"#, "no JSON"),
-    (br#"{"n":1,}"#, "no JSON"),
-    (br#"{"n":1}{}"#, "no JSON"),
-    (b"{\"n\":\"\xff\"}", "no JSON"),
-    (b" ", "no JSON"),
+static NUMBERS: [(&str, &str); 18] = [
+    ("", "none"),
+    ("{}", "none"),
+    (r#" {"n" : null, "m" : null, "l" : []} "#, "none"),
+    (r#"{"n":0}"#, "0"),
+    (r#"{"n":18446744073709551615}"#, "18446744073709551615"),
+    (r#"{"n":1,"n":2}"#, "2"),
+    (r#"{"n":18446744073709551616}"#, "bad: n"),
+    (r#"{"n":-1}"#, "bad: n"),
+    (r#"{"n":1.0}"#, "bad: n"),
+    (r#"{"n":"1"}"#, "bad: n"),
+    (r#"{"n":true}"#, "bad: n"),
+    (r#"{"n":{},"m":0}"#, "bad: n"),
+    (r#"{"n":1,"m":0}"#, "bad: m"),
+    ("[", "no JSON"),
+    (r#"{"n":01}"#, "no JSON"),
+    (r#"{"n":1,}"#, "no JSON"),
+    (r#"{"n":1}{}"#, "no JSON"),
+    (" ", "no JSON"),
 ];
 
-fn number_in(alloc: Global, body: &[u8]) -> Result<Text, BodyStop> {
-    let value = read_body(alloc, body)?;
-    let number: Option<u64> = read_member(alloc, "n", &value)?;
-    read_absent(alloc, "m", &value)?;
+fn number_at(alloc: Global, value: &Value) -> Result<Text, BodyStop> {
+    let number: Option<u64> = read_member(alloc, "n", value)?;
+    read_absent(alloc, "m", value)?;
     match number {
         Some(number) => Ok(Text::from(format!(in alloc; "{number}")?)),
         None => Ok(Text::of(alloc, "none")?),
     }
 }
 
+fn number_in(alloc: Global, body: &[u8]) -> Result<Text, BodyStop> {
+    let value = read_body(alloc, body)?;
+    let number = number_at(alloc, &value);
+    let_go(value);
+    number
+}
+
 #[test]
 fn numbers_are_read(rt: HostRuntime) -> Result<(), Fail> {
     let alloc = rt.alloc();
     for (body, wanted) in &NUMBERS {
-        assert_eq!(rt; said(alloc, number_in(alloc, body))?.as_str(), *wanted);
+        assert_eq!(rt;
+            said(alloc, number_in(alloc, body.as_bytes()))?.as_str(),
+            *wanted
+        );
     }
+    assert_eq!(rt;
+        said(alloc, number_in(alloc, b"\"\xff\""))?.as_str(),
+        "no JSON"
+    );
     Ok(())
 }
 
@@ -189,11 +201,23 @@ static BINDINGS: [(&str, &str); 11] = [
     ),
 ];
 
+fn value_text(alloc: Global, value: Value) -> Result<Text, OutOfMemory> {
+    let text = value.to_string(alloc);
+    let_go(value);
+    Ok(Text::from(text?))
+}
+
+fn list_text<T: ToJson + Drop>(alloc: Global, list: List<T>) -> Result<Text, OutOfMemory> {
+    let shown = list_value(alloc, list.as_slice());
+    let_go(list);
+    value_text(alloc, shown?)
+}
+
 fn list_in<T: FromJson + ToJson + Drop>(alloc: Global, body: &str) -> Result<Text, BodyStop> {
     let value = read_body(alloc, body.as_bytes())?;
-    let list: List<T> = read_required(alloc, "list", &value)?;
-    let shown = list_value(alloc, list.as_slice())?;
-    Ok(Text::from(shown.to_string(alloc)?))
+    let list: Result<List<T>, BodyStop> = read_required(alloc, "list", &value);
+    let_go(value);
+    Ok(list_text(alloc, list?)?)
 }
 
 fn assert_lists<T: FromJson + ToJson + Drop>(
@@ -230,12 +254,18 @@ fn conditional(alloc: Global) -> Result<Binding, OutOfMemory> {
     })
 }
 
+fn condition_text(alloc: Global) -> Result<Text, OutOfMemory> {
+    let binding = conditional(alloc)?;
+    let shown = binding.to_json(alloc);
+    let_go(binding);
+    value_text(alloc, shown?)
+}
+
 #[test]
 fn conditions_are_shown(rt: HostRuntime) -> Result<(), Fail> {
     let alloc = rt.alloc();
-    let shown = conditional(alloc)?.to_json(alloc)?;
     assert_eq!(rt;
-        shown.to_string(alloc)?.as_str(),
+        condition_text(alloc)?.as_str(),
         r#"{"condition":{"description":"","expression":"1 < 2","title":"Order"},"members":["allUsers"],"role":"roles/viewer"}"#
     );
     Ok(())

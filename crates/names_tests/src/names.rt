@@ -5,7 +5,7 @@ use iam_names::{
     copy_leaf, copy_member, copy_node_name, copy_permission, copy_permission_group, copy_pool,
     copy_principal_set, copy_role_name, same_leaf, same_permission,
 };
-use iam_text::{List, OutOfMemory, Text};
+use iam_text::{List, OutOfMemory, Text, let_go};
 use std::alloc::Global;
 use std::test::Fail;
 
@@ -36,21 +36,33 @@ static NAMES: [(Kind, &str, bool); 13] = [
 
 fn caller_again(alloc: Global, text: &str) -> Result<Option<Text>, OutOfMemory> {
     match Caller::read(alloc, text)? {
-        Some(caller) => Ok(Some(caller.text(alloc)?)),
+        Some(caller) => {
+            let again = caller.text(alloc);
+            let_go(caller);
+            Ok(Some(again?))
+        }
         None => Ok(None),
     }
 }
 
 fn node_again(alloc: Global, text: &str) -> Result<Option<Text>, OutOfMemory> {
     match NodeName::read(alloc, text)? {
-        Some(node) => Ok(Some(node.text(alloc)?)),
+        Some(node) => {
+            let again = node.text(alloc);
+            let_go(node);
+            Ok(Some(again?))
+        }
         None => Ok(None),
     }
 }
 
 fn permission_again(alloc: Global, text: &str) -> Result<Option<Text>, OutOfMemory> {
     match PermissionName::read(alloc, text)? {
-        Some(permission) => Ok(Some(permission.text(alloc)?)),
+        Some(permission) => {
+            let again = permission.text(alloc);
+            let_go(permission);
+            Ok(Some(again?))
+        }
         None => Ok(None),
     }
 }
@@ -93,7 +105,10 @@ fn user_of(alloc: Global, local: usize, labels: [usize; 3]) -> Result<String, Ou
 }
 
 fn is_member(alloc: Global, text: &str) -> Result<bool, OutOfMemory> {
-    Ok(Member::read(alloc, text)?.is_some())
+    let member = Member::read(alloc, text)?;
+    let found = member.is_some();
+    let_go(member);
+    Ok(found)
 }
 
 /// How many bytes stand before `@` and in the three labels of the domain, and whether that is a member.
@@ -117,10 +132,13 @@ fn long_names_are_refused(rt: HostRuntime) -> Result<(), Fail> {
 }
 
 fn pool(alloc: Global) -> Result<Pool, OutOfMemory> {
-    copy_pool(&Pool::Workload {
+    let pool = Pool::Workload {
         project: 7,
         pool: Text::of(alloc, "build")?,
-    })
+    };
+    let copy = copy_pool(&pool);
+    let_go(pool);
+    copy
 }
 
 fn groups(alloc: Global) -> Result<List<Text>, OutOfMemory> {
@@ -143,7 +161,13 @@ fn pooled(alloc: Global) -> Result<Caller, OutOfMemory> {
 }
 
 fn caller_text(alloc: Global) -> Result<Text, OutOfMemory> {
-    copy_caller(&pooled(alloc)?)?.text(alloc)
+    let caller = pooled(alloc)?;
+    let copy = copy_caller(&caller);
+    let_go(caller);
+    let copy = copy?;
+    let text = copy.text(alloc);
+    let_go(copy);
+    text
 }
 
 fn member_text(alloc: Global) -> Result<Text, OutOfMemory> {
@@ -151,17 +175,36 @@ fn member_text(alloc: Global) -> Result<Text, OutOfMemory> {
         pool: pool(alloc)?,
         group: Text::of(alloc, "ops")?,
     };
-    copy_member(&member)?.text(alloc)
+    let copy = copy_member(&member);
+    let_go(member);
+    let copy = copy?;
+    let text = copy.text(alloc);
+    let_go(copy);
+    text
 }
 
 fn deny_text(alloc: Global) -> Result<Text, OutOfMemory> {
     let principal = DenyPrincipal::PoolAll(pool(alloc)?);
-    copy_deny_principal(&principal)?.text(alloc)
+    let copy = copy_deny_principal(&principal);
+    let_go(principal);
+    let copy = copy?;
+    let text = copy.text(alloc);
+    let_go(copy);
+    text
+}
+
+fn copied_role_text(alloc: Global, role: RoleName) -> Result<Text, OutOfMemory> {
+    let copy = copy_role_name(&role);
+    let_go(role);
+    let copy = copy?;
+    let text = copy.text(alloc);
+    let_go(copy);
+    text
 }
 
 fn role_text(alloc: Global) -> Result<Text, OutOfMemory> {
     match RoleName::read(alloc, "roles/viewer")? {
-        Some(role) => copy_role_name(&role)?.text(alloc),
+        Some(role) => copied_role_text(alloc, role),
         None => Text::of(alloc, "none"),
     }
 }
@@ -172,7 +215,12 @@ fn group_text(alloc: Global) -> Result<Text, OutOfMemory> {
         resource: Some(Text::of(alloc, "objects")?),
         verb: None,
     };
-    copy_permission_group(&group)?.text(alloc)
+    let copy = copy_permission_group(&group);
+    let_go(group);
+    let copy = copy?;
+    let text = copy.text(alloc);
+    let_go(copy);
+    text
 }
 
 fn set_text(alloc: Global) -> Result<Text, OutOfMemory> {
@@ -180,12 +228,22 @@ fn set_text(alloc: Global) -> Result<Text, OutOfMemory> {
         kind: NodeKind::Folder,
         number: 12,
     });
-    copy_principal_set(&set)?.text(alloc)
+    let copy = copy_principal_set(&set);
+    let_go(set);
+    let copy = copy?;
+    let text = copy.text(alloc);
+    let_go(copy);
+    text
 }
 
 fn node_text(alloc: Global) -> Result<Text, OutOfMemory> {
     let name = NodeName::ProjectId(Text::of(alloc, "web-prod")?);
-    copy_node_name(&name)?.text(alloc)
+    let copy = copy_node_name(&name);
+    let_go(name);
+    let copy = copy?;
+    let text = copy.text(alloc);
+    let_go(copy);
+    text
 }
 
 /// How names of the other forms are written.
@@ -225,7 +283,18 @@ fn leaf_of(email: &Email) -> Result<Leaf, OutOfMemory> {
 
 fn leaf_is_copied(email: &Email) -> Result<bool, OutOfMemory> {
     let leaf = leaf_of(email)?;
-    Ok(same_leaf(&leaf, &copy_leaf(&leaf)?))
+    let copy = copy_leaf(&leaf);
+    let copy = match copy {
+        Ok(copy) => copy,
+        Err(no_memory) => {
+            let_go(leaf);
+            return Err(no_memory);
+        }
+    };
+    let same = same_leaf(&leaf, &copy);
+    let_go(leaf);
+    let_go(copy);
+    Ok(same)
 }
 
 fn email_is_copied(alloc: Global) -> Result<bool, OutOfMemory> {
