@@ -4,16 +4,18 @@ ghost use Rattle.cel_answers.specs.Names.{eval_name_of, name_of, truth_name, typ
 ghost use Rattle.cel_answers.specs.declared.task.Task.TheVariants as asked;
 ghost use Rattle.cel_answers.specs.Answers.{tree_line, fault_line, Answer, IsNamed, LineAnswer};
 ghost use Rattle.cel_value.specs.declared.context.Context.{Context as Meant};
+ghost use Rattle.cel_meaning.specs.Results.{at};
 ghost use Rattle.cel_types.specs.Laws.{IsTruthOrFault};
+ghost use Rattle.cel_types.specs.Means.{Means};
 
 use crate::escapes::unescaped;
 use crate::laws::one_answer_a_line;
 use crate::task::Task;
 use cel_meaning::evaluate;
 use cel_syntax::{Expr, ReadStop, SyntaxKind, print, read};
-use cel_types::{Place, TypeKind, check};
+use cel_types::{Place, TypeKind, Typed, check};
 use cel_value::{Context, EvalFault, Outcome, Value};
-use iam_text::OutOfMemory;
+use iam_text::{OutOfMemory, let_go};
 use std::alloc::Global;
 
 fn name(kind: SyntaxKind) -> &'static str
@@ -90,12 +92,29 @@ fn stop_line(alloc: Global, task: Task, stop: ReadStop) -> Result<String, OutOfM
     }
 }
 
+// The line of a tree, which is let go.
+fn read_line(alloc: Global, tree: Expr) -> Result<String, OutOfMemory>
+    ensures { IfOk result (λ line. string_bytes line ≡ tree_line tree) }
+{
+    let line = tree_line(alloc, &tree);
+    let_go(tree);
+    line
+}
+
+fn typed_line(alloc: Global, typed: Typed) -> Result<String, OutOfMemory>
+    ensures { IfOk result (λ line. string_bytes line ≡ tree_line typed.expr) }
+{
+    let line = tree_line(alloc, typed.expr());
+    let_go(typed);
+    line
+}
+
 // The line of a tree that is to be a condition in a place.
 fn condition_line(alloc: Global, place: Place, tree: Expr) -> Result<String, OutOfMemory>
     ensures { (c : Meant) (text : List ℕ) → CelText text tree → IfOk result (λ line. Answer c (asked.Check place) text (string_bytes line)) }
 {
     match check(tree, place) {
-        Ok(typed) => tree_line(alloc, typed.expr()),
+        Ok(typed) => typed_line(alloc, typed),
         Err(fault) => fault_line(alloc, type_name(fault.kind), fault.offset as usize),
     }
 }
@@ -111,14 +130,33 @@ fn outcome_name(outcome: &Outcome) -> &'static str
     }
 }
 
+// What a condition comes to, which is let go.
+fn evaluated(alloc: Global, facts: &Context, typed: Typed) -> Result<Outcome, OutOfMemory>
+    ensures meaning { IfOk result (Means (at facts.now) typed.expr) }
+    ensures truth { IfOk result IsTruthOrFault }
+{
+    let outcome = evaluate(alloc, &typed, facts);
+    let_go(typed);
+    outcome
+}
+
+fn outcome_line(alloc: Global, outcome: Outcome) -> Result<String, OutOfMemory>
+    requires { IsTruthOrFault outcome }
+    ensures { IfOk result (λ line. IsNamed outcome (string_bytes line)) }
+{
+    let name = outcome_name(&outcome);
+    let_go(outcome);
+    Ok(String::from_str(alloc, name)?)
+}
+
 // The line of a tree that is to be a condition of an allow policy, and is evaluated.
 fn value_line(alloc: Global, facts: &Context, tree: Expr) -> Result<String, OutOfMemory>
     ensures { (text : List ℕ) → CelText text tree → IfOk result (λ line. Answer facts.now asked.Value text (string_bytes line)) }
 {
     match check(tree, Place::Allow) {
         Ok(typed) => {
-            let outcome = evaluate(alloc, &typed, facts)?;
-            Ok(String::from_str(alloc, outcome_name(&outcome))?)
+            let outcome = evaluated(alloc, facts, typed)?;
+            outcome_line(alloc, outcome)
         }
         Err(fault) => fault_line(alloc, type_name(fault.kind), fault.offset as usize),
     }
@@ -138,7 +176,7 @@ pub fn text_answer(
         Err(stop) => return stop_line(alloc, task, stop),
     };
     match task {
-        Task::Read => tree_line(alloc, &tree),
+        Task::Read => read_line(alloc, tree),
         Task::Check(place) => condition_line(alloc, place, tree),
         Task::Value => value_line(alloc, facts, tree),
     }

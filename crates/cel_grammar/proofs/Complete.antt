@@ -12,7 +12,7 @@ use Rattle.cel_grammar.specs.declared.level.Level.{Level}
 use Rattle.cel_grammar.specs.declared.level.Level.TheVariants.{Or, And, Rel, Add, Mul}
 use Rattle.cel_grammar.specs.Position.{Position, from, span, Takes, sees_number}
 use Rattle.cel_grammar.specs.Grammar as g
-use Rattle.cel_grammar.specs.Grammar.{Sort, Whole, Binary, Unary, Nots, Negs, Member, Primary, operand, op_of, Derives, Arguments, Listed, Elements, Row}
+use Rattle.cel_grammar.specs.Grammar.{Sort, Whole, Binary, Unary, Nots, Negs, Member, Primary, operand, op_of, method_tree, Derives, Arguments, Listed, Elements, Row}
 use Rattle.cel_grammar.specs.Reader.{Parser, and_then, pure, fail, next, after, negated, literal, negative_by, negative, sees, name_in, name, with_op, args_from, args, called, grouped, row_from, row, listed, primary_by, primary, selected, member_from, member, nots, negs, unary, chain_from, chained, side, chain, picked, whole_of, whole_at}
 use Rattle.cel_grammar.proofs.Rank.{sign_rank, rank, sort_rank, Stops, operand_rank, takes_next, takes_first, takes_length, takes_rank, after_takes, after_skips, after_unseen, NoNegation, negation_takes, negation_skips, begins, listed_opens, row_starts, not_comma, bracket_not_comma, op_rank, op_none, op_some, shrinks, arguments_shrink}
 
@@ -246,14 +246,14 @@ walk_on n i j k l m a b x r t u h q = go r.turns r.enough r.walks
 
 selects : (w : Parser Expr) (i m : Position) (a : Expr) (x : List ℕ) → Stops Primary m → selected w (from i) a x m ≡ Some (tree.Select (span i m) a x, m)
 unfolding selected
-selects w i m a x s = after_skips sign.OpenParenthesis (λ n. and_then (args w n) (λ es m. Some (tree.Method (record { from = from i; to = m.last }) a x es, m))) (λ m. Some (tree.Select (record { from = from i; to = m.last }) a x, m)) m (omega (arith, s.above))
+selects w i m a x s = after_skips sign.OpenParenthesis (λ n. and_then (args w n) (λ es m. Some (method_tree (record { from = from i; to = m.last }) a x es, m))) (λ m. Some (tree.Select (record { from = from i; to = m.last }) a x, m)) m (omega (arith, s.above))
 
 calls_method : (w : Parser Expr) (i l m n : Position) (a : Expr) (x : List ℕ) (es : List Expr) → Takes (kind.Sign sign.OpenParenthesis) l m → args w m ≡ Some (es, n)
-    → selected w (from i) a x l ≡ Some (tree.Method (span i n) a x es, n)
+    → selected w (from i) a x l ≡ Some (method_tree (span i n) a x es, n)
 unfolding selected
 calls_method w i l m n a x es t q =
-    after_takes sign.OpenParenthesis (λ n. and_then (args w n) (λ es m. Some (tree.Method (record { from = from i; to = m.last }) a x es, m))) (λ m. Some (tree.Select (record { from = from i; to = m.last }) a x, m)) l m t
-    ∙ ap (λ z. and_then z (λ es m. Some (tree.Method (record { from = from i; to = m.last }) a x es, m))) q
+    after_takes sign.OpenParenthesis (λ n. and_then (args w n) (λ es m. Some (method_tree (record { from = from i; to = m.last }) a x es, m))) (λ m. Some (tree.Select (record { from = from i; to = m.last }) a x, m)) l m t
+    ∙ ap (λ z. and_then z (λ es m. Some (method_tree (record { from = from i; to = m.last }) a x es, m))) q
 
 before_dot : (j k : Position) → Takes (kind.Sign sign.Dot) j k → Stops Primary j
 before_dot j k t = closed Primary sign.Dot j k t (lit< tt)
@@ -262,7 +262,7 @@ select_rule : (i j k m : Position) (a : Expr) (x : List ℕ) → Strong Member i
 select_rule i j k m a x r t u = record { at = λ n h s. walk_on n i j k m m a _ x (r.at n h (before_dot j k t)) t u (omega arith) (selects (whole_at n) i m a x s) }
 
 method_rule : (i j k l m v : Position) (a : Expr) (x : List ℕ) (es : List Expr) → Strong Member i j a → Takes (kind.Sign sign.Dot) j k → Takes (kind.Name x) k l → Takes (kind.Sign sign.OpenParenthesis) l m → GoodArguments m v es
-    → length j.rest < length i.rest → length v.rest < length m.rest → Strong Member i v (tree.Method (span i v) a x es)
+    → length j.rest < length i.rest → length v.rest < length m.rest → Strong Member i v (method_tree (span i v) a x es)
 method_rule i j k l m v a x es r t u p q y z = record {
   at = λ n h s.
       walk_on n i j k l v a _ x (r.at n h (before_dot j k t)) t u (omega (arith, takes_length p, z))

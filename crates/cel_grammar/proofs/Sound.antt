@@ -12,7 +12,7 @@ use Rattle.cel_grammar.specs.declared.level.Level.{Level}
 use Rattle.cel_grammar.specs.declared.level.Level.TheVariants.{Or, And, Rel, Add, Mul}
 use Rattle.cel_grammar.specs.Position.{Position, from, span, Takes}
 use Rattle.cel_grammar.specs.Grammar as g
-use Rattle.cel_grammar.specs.Grammar.{Sort, Whole, Binary, Unary, Nots, Negs, Member, Primary, operand, op_of, Derives, Arguments, Listed, Elements, Row}
+use Rattle.cel_grammar.specs.Grammar.{Sort, Whole, Binary, Unary, Nots, Negs, Member, Primary, operand, op_of, method_tree, Derives, Arguments, Listed, Elements, Row}
 use Rattle.cel_grammar.specs.Reader.{Parser, and_then, pure, fail, next, first, op_in, op_at, after, positive, negated, literal, negative_by, negative, name_in, name, with_op, args_from, args, called, grouped, row_from, row, listed, primary_by, primary, selected, member_from, member, nots, negs, unary, chain_from, chained, side, chain, picked, whole_of, whole_at}
 use Rattle.cel_grammar.proofs.Steps.{some_is, bind_ok, after_ok, negation_ok, first_taken}
 
@@ -149,8 +149,8 @@ module _ (w : Parser Expr) (sw : Sound Whole w) where
       → selected w (from i) a x m ≡ Some y → Derives Member i y.1 y.0
   unfolding selected
   selected_sound i k m a x j y d t u e =
-      elim (after_ok sign.OpenParenthesis (λ n. and_then (args w n) (λ es m. Some (tree.Method (record { from = from i; to = m.last }) a x es, m))) (λ m. Some (tree.Select (record { from = from i; to = m.last }) a x, m)) m y e) [
-        | inl h ↦ let b = bind_ok (args w (next m)) (λ es m. Some (tree.Method (record { from = from i; to = m.last }) a x es, m)) y h.1 in
+      elim (after_ok sign.OpenParenthesis (λ n. and_then (args w n) (λ es m. Some (method_tree (record { from = from i; to = m.last }) a x es, m))) (λ m. Some (tree.Select (record { from = from i; to = m.last }) a x, m)) m y e) [
+        | inl h ↦ let b = bind_ok (args w (next m)) (λ es m. Some (method_tree (record { from = from i; to = m.last }) a x es, m)) y h.1 in
             given Member i _ y b.then (g.method d t u h.0 (args_sound (next m) (b.value, b.at) b.was))
         | inr h ↦ given Member i _ y h (g.select d t u)
       ]

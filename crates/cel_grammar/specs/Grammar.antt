@@ -5,6 +5,7 @@ use Rattle.cel_tree.specs.declared.tree.Op.{Op}
 use Rattle.cel_tree.specs.declared.tree.Op.TheVariants as op
 use Rattle.cel_tree.specs.declared.tree.Expr.{Expr}
 use Rattle.cel_tree.specs.declared.tree.Expr.TheVariants as tree
+use Rattle.cel_tree.specs.declared.tree.Span.{Span}
 use Rattle.cel_tree.specs.declared.token.Sign.{Sign}
 use Rattle.cel_tree.specs.declared.token.Sign.TheVariants as sign
 use Rattle.cel_tree.specs.declared.token.Token.{Token}
@@ -41,6 +42,10 @@ op_of Mul sign.Slash = Some op.Div
 op_of Mul sign.Percent = Some op.Rem
 op_of _ _ = None
 
+-- the tree of a method: what stands before the name, the name, and the arguments
+abbrev pub method_tree : Span → Expr → List ℕ → List Expr → Expr
+method_tree span a x es = tree.Method span a x es
+
 mutual
   pub data Derives : Sort → Position → Position → Expr → Type 0 where
     -- Expr = Or [ "?" Or ":" Expr ]
@@ -66,7 +71,7 @@ mutual
     select : {i j k m : Position} {a : Expr} {x : List ℕ} → Derives Member i j a → Takes (kind.Sign sign.Dot) j k → Takes (kind.Name x) k m
         → Derives Member i m (tree.Select (span i m) a x)
     method : {i j k l m n : Position} {a : Expr} {x : List ℕ} {es : List Expr} → Derives Member i j a → Takes (kind.Sign sign.Dot) j k
-        → Takes (kind.Name x) k l → Takes (kind.Sign sign.OpenParenthesis) l m → Arguments m n es → Derives Member i n (tree.Method (span i n) a x es)
+        → Takes (kind.Name x) k l → Takes (kind.Sign sign.OpenParenthesis) l m → Arguments m n es → Derives Member i n (method_tree (span i n) a x es)
     -- Primary = IDENT [ "(" [ Args ] ")" ] | "(" Expr ")" | "[" [ Args [ "," ] ] "]" | LITERAL
     name : {i j : Position} {x : List ℕ} → Takes (kind.Name x) i j → Derives Primary i j (tree.Name (span i j) x)
     call : {i j k m : Position} {x : List ℕ} {es : List Expr} → Takes (kind.Name x) i j → Takes (kind.Sign sign.OpenParenthesis) j k → Arguments k m es

@@ -15,7 +15,7 @@ use Rattle.cel_grammar.specs.declared.level.Level.TheVariants.{Or, And, Rel, Add
 use Rattle.cel_grammar.specs.declared.stop.Stop.{Stop}
 use Rattle.cel_grammar.specs.declared.stop.Stop.TheVariants.{OutOfMemory, NotAnExpression}
 use Rattle.cel_grammar.specs.Position.{Position, start_of, from, span, sees_number}
-use Rattle.cel_grammar.specs.Grammar.{op_of}
+use Rattle.cel_grammar.specs.Grammar.{method_tree, op_of}
 
 abbrev pub Parser : Type 0 → Type 0
 Parser A = Position → Option (A × Position)
@@ -159,7 +159,7 @@ module _ (w : Parser Expr) where
   -- behind the name: the tree of what stands before it, and of it
   unfoldable pub selected : ℕ → Expr → List ℕ → Parser Expr
   selected start a x =
-      after sign.OpenParenthesis (args >>= (λ es m. Some (tree.Method (record { from = start; to = m.last }) a x es, m))) (λ m. Some (tree.Select (record { from = start; to = m.last }) a x, m))
+      after sign.OpenParenthesis (args >>= (λ es m. Some (method_tree (record { from = start; to = m.last }) a x es, m))) (λ m. Some (tree.Select (record { from = start; to = m.last }) a x, m))
 
   unfoldable pub member_from : ℕ → ℕ → Expr → Parser Expr
   member_from zero start a = pure a

@@ -1,6 +1,7 @@
 // One node over what it holds.
 
 ghost use Rattle.std.specs.Prelude.{◌≡◌, IfOk};
+ghost use Rattle.cel_grammar.specs.Grammar.{method_tree};
 
 use cel_tree::{Boxed, Expr, Op, Span};
 use iam_text::{List, Text};
@@ -66,7 +67,7 @@ pub fn method(
     name: Text,
     args: List<Expr>,
 ) -> Result<Boxed<Expr>, AllocError>
-    ensures { IfOk result (λ e. e ≡ Expr.Method span a name args) }
+    ensures { IfOk result (λ e. e ≡ method_tree span a name args) }
 {
     Boxed::new(alloc, Expr::Method(span, a, name, args))
 }

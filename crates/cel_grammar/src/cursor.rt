@@ -7,7 +7,7 @@ ghost use Rattle.cel_grammar.specs.Reader.{Reads};
 use crate::level::{Level, op_of};
 use crate::stop::Stop;
 use cel_tree::{Op, Sign, Span, Token, TokenKind, Tokens};
-use iam_text::Text;
+use iam_text::{Text, let_go};
 use std::collections::VecDeque;
 use std::marker::Model;
 
@@ -100,7 +100,7 @@ impl Cursor {
     pub fn skip(&mut self)
         ensures { self.new ≡ spec.next self.old }
     {
-        self.take();
+        let_go(self.take());
     }
 
     #[tactic(auto, using(crate::proofs::Peeked::is_first, crate::proofs::Peeked::is_empty))]

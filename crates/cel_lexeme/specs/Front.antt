@@ -1,5 +1,5 @@
 -- The longest lexeme at the front of a text, as it is computed.
-use Rattle.std.specs.Prelude.{ℕ, zero, suc, ◌+◌, ◌-◌, ◌^◌, min, Bool, true, false, not, ◌&&◌, ◌==◌, if◌then◌else◌, List, [], ◌∷◌, ◌++◌, length, take, drop, slice_index, Option, Some, None}
+use Rattle.std.specs.Prelude.{ℕ, zero, suc, ◌+◌, ◌-◌, ◌^◌, min, Bool, true, false, not, ◌&&◌, ◌==◌, if◌then◌else◌, List, [], ◌∷◌, ◌++◌, length, take, drop, slice_index, Option, Some, None, bytes_eq, find}
 use Rattle.std.specs.Char.{is_digit, is_ascii_digit}
 use Rattle.std.specs.List.{prefix_len}
 use Rattle.std.specs.Str.{byte}
@@ -7,7 +7,7 @@ use lib.Utf8.{scalar}
 use Rattle.cel_tree.specs.declared.token.Sign.{Sign}
 use Rattle.cel_tree.specs.declared.token.Sign.TheVariants as sign
 use Rattle.cel_tree.specs.declared.token.TokenKind.TheVariants as kind
-use Rattle.cel_tree.specs.Spelling.{is_letter, is_word_byte}
+use Rattle.cel_tree.specs.Spelling.{is_letter, is_word_byte, spelling}
 use Rattle.cel_lexeme.specs.declared.lexeme.Lexeme.{Lexeme}
 use Rattle.cel_lexeme.specs.declared.lexeme.Lexeme.TheVariants.{Token}
 use Rattle.cel_lexeme.specs.declared.strings.StringForm.{StringForm}
@@ -126,19 +126,21 @@ is_hexadecimal z = slice_index z 0 == byte "0" && slice_index z 1 == byte "x" &&
 unfoldable pub number_at : List ℕ → Lexeme × ℕ
 number_at z = if is_hexadecimal z then digits_at 16 2 (drop 2 z) else digits_at 10 0 z
 
+-- the signs of two bytes, and those of one
+abbrev pub signs_of_two : List Sign
+signs_of_two =
+    sign.OrOr ∷ sign.AndAnd ∷ sign.LessEqual ∷ sign.GreaterEqual ∷ sign.EqualEqual ∷ sign.NotEqual ∷ []
+
+abbrev pub signs_of_one : List Sign
+signs_of_one =
+    sign.Question ∷ sign.Colon ∷ sign.Less ∷ sign.Greater ∷ sign.Plus ∷ sign.Minus ∷ sign.Star ∷ sign.Slash ∷ sign.Percent ∷ sign.Bang
+    ∷ sign.Dot ∷ sign.Comma ∷ sign.OpenParenthesis ∷ sign.CloseParenthesis ∷ sign.OpenBracket ∷ sign.CloseBracket ∷ []
+
 abbrev pub sign_two : ℕ → ℕ → Option Sign
-sign_two b c =
-    if b == 124 && c == 124 then Some sign.OrOr else (if b == 38 && c == 38 then Some sign.AndAnd
-    else (if b == 60 && c == 61 then Some sign.LessEqual else (if b == 62 && c == 61 then Some sign.GreaterEqual
-    else (if b == 61 && c == 61 then Some sign.EqualEqual else (if b == 33 && c == 61 then Some sign.NotEqual else None)))))
+sign_two b c = find (λ s. bytes_eq (b ∷ c ∷ []) (spelling s)) signs_of_two
 
 abbrev pub sign_one : ℕ → Option Sign
-sign_one b =
-    if b == 63 then Some sign.Question else (if b == 58 then Some sign.Colon else (if b == 60 then Some sign.Less else (if b == 62 then Some sign.Greater
-    else (if b == 43 then Some sign.Plus else (if b == 45 then Some sign.Minus else (if b == 42 then Some sign.Star else (if b == 47 then Some sign.Slash
-    else (if b == 37 then Some sign.Percent else (if b == 33 then Some sign.Bang else (if b == 46 then Some sign.Dot else (if b == 44 then Some sign.Comma
-    else (if b == 40 then Some sign.OpenParenthesis else (if b == 41 then Some sign.CloseParenthesis else (if b == 91 then Some sign.OpenBracket
-    else (if b == 93 then Some sign.CloseBracket else None)))))))))))))))
+sign_one b = find (λ s. bytes_eq (b ∷ []) (spelling s)) signs_of_one
 
 abbrev pub signed : ℕ → Option Sign → Option (Lexeme × ℕ) → Option (Lexeme × ℕ)
 signed n (Some s) other = Some (Token (kind.Sign s), n)

@@ -8,6 +8,5 @@ pub mod Scanning
 pub mod Extracting
 pub mod Tagging
 pub mod Days
-pub mod PartIn
 pub mod Ranges
 pub mod TimeTexts

@@ -39,7 +39,6 @@ use Rattle.cel_types.proofs.OneOutcome.{one_outcome}
 use Rattle.cel_types.proofs.Smaller.{one_at_least, smaller}
 use Rattle.cel_meaning.specs.Apply.{choice}
 use Rattle.cel_meaning.specs.OutcomeOf.{all_values, headed, node_outcome, outcome_of, outcome_within, strict_outcome, two_outcome, with_first}
-use Rattle.cel_meaning.specs.Results.{selected}
 use Rattle.cel_meaning.proofs.Applies.{applies_is, at_truth}
 
 -- a part comes to what is computed, which is of its kind
@@ -89,6 +88,10 @@ strict_at s below x h ks k strict is given all from =
     by : (r : Result (List Value) EvalFault) → ResultIsOf r ks → Concludes s h r (headed s (Some h) r)
     by (Ok vs) of_kinds = rule.gives (applies_is s h given from vs of_kinds)
     by (Err fault) of_kinds = rule.stops
+
+-- what a field of a base comes to, which is an attribute or nothing
+abbrev selected : Setting → Option Attribute → Outcome
+selected s o = headed s (option_map (λ a. head.attribute a) o) (Ok [])
 
 selected_is : (s : Setting) (span : Span) (base : Expr) (field : List ℕ) (o : Option Attribute) (f : Form) → attribute_of (out-Expr base) field ≡ o
     → option_map form.Attribute o ≡ Some f → MeansAt s (Expr-F.Select span base field) (selected s o)
@@ -180,7 +183,7 @@ parts_are s sight n below known (row.more {e = e} {es = es} {k = k} h r) all =
 within_means : (s : Setting) (sight : Sight) (n : ℕ) (e : Expr) (k : Kind) → size e ≤ n → HasKind sight e k → Means s e (outcome_within n s e)
 unfolding outcome_within
 within_means s sight zero e k h has = absurd (one_at_least e h)
-within_means s sight (suc n) e k h (row.node {f = f} {ks = ks} form fits have from) =
+within_means s sight (suc n) e k h (row.node {f = f} {ks = ks} plain form fits have from) =
     rule.node (node_at s sight (outcome_within n s) (out-Expr e) f ks k form fits
     (parts_are s sight n (outcome_within n s) (λ c l small has. within_means s sight n c l small has) have (smaller n e h)) from)
 

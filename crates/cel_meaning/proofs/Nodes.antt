@@ -1,5 +1,6 @@
 -- What a node comes to, from what is read of it and of the nodes below it.
-use Rattle.std.proofs.Common.{◌≡◌, ℕ, ℤ, Bool, true, false, cond, List, [], ◌∷◌, map, Result, Ok, Err, Option, Some, refl, sym, ap, ◌∙◌, subst}
+use Rattle.std.proofs.Common.{◌≡◌, ℕ, ℤ, Bool, true, false, cond, ◌||◌, List, [], ◌∷◌, ◌++◌, ◌⊎◌, inl, inr, map, Result, Ok, Err, Option, Some, None, refl, sym, ap, ◌∙◌, subst}
+use Rattle.std.specs.Prelude.{not}
 use Rattle.cel_tree.specs.declared.tree.Expr.{Expr, out-Expr}
 use Rattle.cel_tree.specs.declared.tree.Expr.TheOpen.{Expr-F}
 use Rattle.cel_tree.specs.declared.tree.Expr.TheVariants as tree
@@ -11,18 +12,18 @@ use Rattle.cel_value.specs.declared.value.EvalFault.{EvalFault}
 use Rattle.cel_value.specs.declared.value.Outcome.{Outcome}
 use Rattle.cel_value.specs.declared.value.Outcome.TheVariants.{Given, Stopped}
 use Rattle.cel_value.specs.declared.value.Value.{Value, out-Value}
-use Rattle.cel_value.specs.declared.value.Value.TheVariants as value
-use Rattle.cel_types.specs.declared.form.Attribute.{Attribute}
-use Rattle.cel_types.specs.declared.form.Form.{Form}
-use Rattle.cel_types.specs.Forms.{attribute_of, form_of, is_whole}
+use Rattle.cel_types.specs.Forms.{is_whole}
 use Rattle.cel_types.specs.Heads as head
-use Rattle.cel_types.specs.Heads.{Head}
+use Rattle.cel_types.specs.Heads.{Head, head_of}
+use Rattle.cel_types.specs.Means.{comes_to, first_stop, value_is}
 use Rattle.cel_types.specs.Setting.{Setting}
+use Rattle.cel_meaning.specs.declared.operators.Side.TheVariants.{Decides, Passes, Stops}
+use Rattle.cel_meaning.specs.declared.operators.Side.{Side}
 use Rattle.cel_meaning.specs.declared.stop.Stop.{Stop}
 use Rattle.cel_meaning.specs.declared.stop.Stop.TheVariants as stop
-use Rattle.cel_meaning.specs.Apply.{apply, choice, choice_layer, negation, no_outcome, opposite}
+use Rattle.cel_meaning.specs.Apply.{apply, choice, choice_layer, no_outcome, truth}
 use Rattle.cel_meaning.specs.OutcomeOf.{all_values, headed, node_outcome, outcome_of, two_outcome, with_first}
-use Rattle.cel_meaning.specs.Results.{Gathers, Gives, behind, called, list_of, on_one, on_two, picked, selected, two_sides}
+use Rattle.cel_meaning.specs.Results.{Gathered, Gathers, Gives, behind, decisive, junction, picked, side_of}
 use Rattle.cel_meaning.proofs.Steps.{outcome_step}
 
 -- a node by its layer
@@ -32,169 +33,220 @@ at_layer s e x is = outcome_step s e ∙ ap (λ z. node_outcome s (outcome_of s)
 moved : (o p : Outcome) (r : Result Value Stop) → o ≡ p → Gives p r → Gives o r
 moved o p r is h = subst (λ z. Gives z r) (sym is) h
 
--- ---- stops
+-- a node by its head, from what is made of the values of its parts
+pub headed_by : (s : Setting) (h : Head) (o : Option Head) (all : Gathered) (vs : List Value) (r : Result Value Stop) → Some h ≡ o → all ≡ Ok vs → Gives (apply s h vs) r → Gives (headed s o all) r
+headed_by s h o all vs r is h' given = subst (λ z. Gives (headed s z all) r) is (subst (λ z. Gives (headed s (Some h) z) r) (sym h') given)
 
--- what stops with an outcome does so here
-pub stops_with : (f : Outcome → Outcome) (o : Outcome) (s : Stop) → ((fault : EvalFault) → f (Stopped fault) ≡ Stopped fault) → Gives o (Err s) → Gives (f o) (Err s)
-stops_with f o (stop.Fault fault) strict h = ap f h ∙ strict fault
-stops_with f o stop.OutOfMemory strict h = tt
+pub headed_none : (s : Setting) (o : Option Head) (all : Gathered) (vs : List Value) → None ≡ o → all ≡ Ok vs → headed s o all ≡ no_outcome
+headed_none s o all vs is h = ap (λ z. headed s o z) h ∙ ap (λ z. headed s z (Ok vs)) (sym is)
 
--- ---- literals and names
+pub headed_stops : (s : Setting) (o : Option Head) (all : Gathered) (why : Stop) → Gathers all (Err why) → Gives (headed s o all) (Err why)
+headed_stops s o all (stop.Fault fault) h = ap (λ z. headed s o z) h
+headed_stops s o all stop.OutOfMemory h = tt
 
-pub bool_is : (s : Setting) (e : Expr) (span : Span) (b : Bool) → e ≡ tree.Bool span b → outcome_of s e ≡ Given (value.Bool b)
-bool_is s e span b is = at_layer s e _ (ap out-Expr is ∙ outs-Bool span b)
+-- ---- nodes all of whose parts are evaluated
 
-pub int_is : (s : Setting) (e : Expr) (span : Span) (n : ℤ) → e ≡ tree.Int span n → outcome_of s e ≡ Given (value.Int n)
-int_is s e span n is = at_layer s e _ (ap out-Expr is ∙ outs-Int span n)
+-- the node is such a one, with these values or this fault
+abbrev IsStrict : Setting → Expr → Gathered → Type 0
+IsStrict s e all = outcome_of s e ≡ headed s (head_of (out-Expr e)) all
 
-pub str_is : (s : Setting) (e : Expr) (span : Span) (text own : List ℕ) (r : Result Value Stop) → e ≡ tree.Str span text → own ≡ text → Gives (Given (value.Str own)) r → Gives (outcome_of s e) r
-str_is s e span text own r is p h =
-    moved (outcome_of s e) (Given (value.Str own)) r (at_layer s e _ (ap out-Expr is ∙ outs-Str span text) ∙ ap (λ z. Given (value.Str z)) (sym p)) h
+-- what is made of the parts, whatever they come to
+abbrev Makes : Setting → Expr → Result (List Value) Stop → Result Value Stop → Type 0
+Makes s e gathered r = (all : Gathered) → Gathers all gathered → Gives (headed s (head_of (out-Expr e)) all) r
 
-pub name_is : (s : Setting) (e : Expr) (span : Span) (name : List ℕ) → e ≡ tree.Name span name → outcome_of s e ≡ no_outcome
-name_is s e span name is = at_layer s e _ (ap out-Expr is ∙ outs-Name span name)
+strict_by : (s : Setting) (e : Expr) (x : Expr-F Expr) (all : Gathered) → out-Expr e ≡ x → node_outcome s (outcome_of s) x ≡ headed s (head_of x) all → IsStrict s e all
+strict_by s e x all layer same = at_layer s e x layer ∙ same ∙ ap (λ z. headed s (head_of z) all) (sym layer)
 
-pub select_is : (s : Setting) (e b g : Expr) (span : Span) (field t : List ℕ) (found : Option Attribute) (r : Result Value Stop) → e ≡ tree.Select span b field → g ≡ b → t ≡ field
-    → found ≡ attribute_of (out-Expr g) t → Gives (selected s found) r → Gives (outcome_of s e) r
-select_is s e b g span field t found r is p q f h =
-    moved (outcome_of s e) (selected s found) r
-    (at_layer s e _ (ap out-Expr is ∙ outs-Select span b field)
-    ∙ ap (λ z. selected s (attribute_of (out-Expr z) field)) (sym p)
-    ∙ ap (λ z. selected s (attribute_of (out-Expr g) z)) (sym q)
-    ∙ ap (selected s) (sym f)) h
+gives : (s : Setting) (e : Expr) (all : Gathered) (gathered : Result (List Value) Stop) (r : Result Value Stop) → IsStrict s e all → Gathers all gathered → Makes s e gathered r → Gives (outcome_of s e) r
+gives s e all gathered r strict h makes = moved (outcome_of s e) (headed s (head_of (out-Expr e)) all) r strict (makes all h)
 
--- ---- functions, methods and lists
+stops : (s : Setting) (e : Expr) (all : Gathered) (why : Stop) → IsStrict s e all → Gathers all (Err why) → Gives (outcome_of s e) (Err why)
+stops s e all why strict h = moved (outcome_of s e) (headed s (head_of (out-Expr e)) all) (Err why) strict (headed_stops s (head_of (out-Expr e)) all why h)
 
-nothing_before : (r : Result (List Value) EvalFault) → behind [] r ≡ r
+-- a node without parts that are evaluated
+abbrev IsLeaf : Expr → Type 0
+IsLeaf e =
+    ((span : Span) × (b : Bool) × (e ≡ tree.Bool span b)) ⊎ (((span : Span) × (n : ℤ) × (e ≡ tree.Int span n))
+    ⊎ (((span : Span) × (text : List ℕ) × (e ≡ tree.Str span text)) ⊎ (((span : Span) × (name : List ℕ) × (e ≡ tree.Name span name))
+    ⊎ ((span : Span) × (base : Expr) × (field : List ℕ) × (e ≡ tree.Select span base field)))))
+
+leaf_strict : (s : Setting) (e : Expr) → IsLeaf e → IsStrict s e (Ok [])
+leaf_strict s e (inl (span, b, is)) = strict_by s e _ (Ok []) (ap out-Expr is ∙ outs-Bool span b) refl
+leaf_strict s e (inr (inl (span, n, is))) = strict_by s e _ (Ok []) (ap out-Expr is ∙ outs-Int span n) refl
+leaf_strict s e (inr (inr (inl (span, text, is)))) = strict_by s e _ (Ok []) (ap out-Expr is ∙ outs-Str span text) refl
+leaf_strict s e (inr (inr (inr (inl (span, name, is))))) = strict_by s e _ (Ok []) (ap out-Expr is ∙ outs-Name span name) refl
+leaf_strict s e (inr (inr (inr (inr (span, base, field, is))))) = strict_by s e _ (Ok []) (ap out-Expr is ∙ outs-Select span base field) refl
+
+pub leaf_is : (s : Setting) (e : Expr) (found : List Value) (r : Result Value Stop) → IsLeaf e → found ≡ [] → Makes s e (Ok found) r → Gives (outcome_of s e) r
+leaf_is s e found r leaf is makes = gives s e (Ok []) (Ok found) r (leaf_strict s e leaf) (ap (λ z. Ok z) (sym is)) makes
+
+-- what is gathered behind nothing
+nothing_before : (all : Gathered) → behind [] all ≡ all
 nothing_before (Ok vs) = refl
 nothing_before (Err fault) = refl
 
-one_before : (v : Value) (r : Result (List Value) EvalFault) → with_first v r ≡ behind (v ∷ []) r
-one_before v (Ok vs) = refl
-one_before v (Err fault) = refl
+from_nothing : (found : List Value) (all : Gathered) (gathered : Result (List Value) Stop) → found ≡ [] → Gathers (behind found all) gathered → Gathers all gathered
+from_nothing found all gathered is h = subst (λ z. Gathers z gathered) (nothing_before all) (subst (λ z. Gathers (behind z all) gathered) is h)
 
-pub call_is : (s : Setting) (e : Expr) (span : Span) (name : List ℕ) (es gs : List Expr) (found : List Value) (form : Option Form) (r : Result Value Stop) → e ≡ tree.Call span name es → gs ≡ es
-    → found ≡ [] → form ≡ form_of (out-Expr e) → Gives (called s form gs (behind found (all_values (map (outcome_of s) gs)))) r → Gives (outcome_of s e) r
-call_is s e span name es gs found form r is p q f h =
-    let layer : out-Expr e ≡ Expr-F.Call span name es = ap out-Expr is ∙ outs-Call span name es in
-    moved (outcome_of s e) (called s form gs (behind found (all_values (map (outcome_of s) gs)))) r
-    (at_layer s e _ layer
-    ∙ ap (λ z. called s z es (all_values (map (outcome_of s) es))) (ap form_of (sym layer) ∙ sym f)
-    ∙ ap (λ z. called s form z (all_values (map (outcome_of s) z))) (sym p)
-    ∙ ap (called s form gs) (sym (nothing_before (all_values (map (outcome_of s) gs))))
-    ∙ ap (λ z. called s form gs (behind z (all_values (map (outcome_of s) gs)))) (sym q)) h
+-- the values of a call's arguments or of a list's items
+abbrev IsRow : Expr → List Expr → Type 0
+IsRow e es = ((span : Span) × (name : List ℕ) × (e ≡ tree.Call span name es)) ⊎ ((span : Span) × (e ≡ tree.Many span es))
 
--- a method, by whether it is one node with its base and its arguments
-method_layer : (s : Setting) (e b g : Expr) (span : Span) (name t : List ℕ) (es gs : List Expr) (form : Option Form) (whole : Bool) → e ≡ tree.Method span b name es → g ≡ b → t ≡ name → gs ≡ es
-    → form ≡ form_of (out-Expr e) → is_whole (out-Expr g) t ≡ whole → outcome_of s e ≡ called s form gs (all_values (map (outcome_of s) (cond whole [] (g ∷ gs))))
-method_layer s e b g span name t es gs form whole is p q a f w =
-    let layer : out-Expr e ≡ Expr-F.Method span b name es = ap out-Expr is ∙ outs-Method span b name es in
-    at_layer s e _ layer
-    ∙ ap (λ z. called s z es (all_values (map (outcome_of s) (cond (is_whole (out-Expr b) name) [] (b ∷ es))))) (ap form_of (sym layer) ∙ sym f)
-    ∙ ap (λ (z : List Expr). called s form z (all_values (map (outcome_of s) (cond (is_whole (out-Expr b) name) [] (b ∷ z))))) (sym a)
-    ∙ ap (λ (z : Expr). called s form gs (all_values (map (outcome_of s) (cond (is_whole (out-Expr z) name) [] (z ∷ gs))))) (sym p)
-    ∙ ap (λ (z : List ℕ). called s form gs (all_values (map (outcome_of s) (cond (is_whole (out-Expr g) z) [] (g ∷ gs))))) (sym q)
-    ∙ ap (λ (z : Bool). called s form gs (all_values (map (outcome_of s) (cond z [] (g ∷ gs))))) w
+row_strict : (s : Setting) (e : Expr) (es : List Expr) → IsRow e es → IsStrict s e (all_values (map (outcome_of s) es))
+row_strict s e es (inl (span, name, is)) = strict_by s e _ _ (ap out-Expr is ∙ outs-Call span name es) refl
+row_strict s e es (inr (span, is)) = strict_by s e _ _ (ap out-Expr is ∙ outs-Many span es) refl
 
-pub whole_is : (s : Setting) (e b g : Expr) (span : Span) (name t : List ℕ) (es gs : List Expr) (form : Option Form) (r : Result Value Stop) → e ≡ tree.Method span b name es → g ≡ b → t ≡ name → gs ≡ es
-    → form ≡ form_of (out-Expr e) → is_whole (out-Expr g) t ≡ true → Gives (called s form gs (Ok [])) r → Gives (outcome_of s e) r
-whole_is s e b g span name t es gs form r is p q a f w h =
-    moved (outcome_of s e) (called s form gs (Ok [])) r (method_layer s e b g span name t es gs form true is p q a f w) h
+pub row_is : (s : Setting) (e : Expr) (es gs : List Expr) (found : List Value) (gathered : Result (List Value) Stop) (r : Result Value Stop) → IsRow e es → gs ≡ es → found ≡ []
+    → Gathers (behind found (all_values (map (outcome_of s) gs))) gathered → Makes s e gathered r → Gives (outcome_of s e) r
+row_is s e es gs found gathered r row p q h makes =
+    gives s e (all_values (map (outcome_of s) gs)) gathered r (row_strict s e gs (subst (IsRow e) (sym p) row)) (from_nothing found _ gathered q h) makes
 
--- a method whose base has a value
-pub method_is : (s : Setting) (e b g : Expr) (span : Span) (name t : List ℕ) (es gs : List Expr) (form : Option Form) (v : Value) (found : List Value) (r : Result Value Stop) → e ≡ tree.Method span b name es → g ≡ b
-    → t ≡ name → gs ≡ es → form ≡ form_of (out-Expr e) → is_whole (out-Expr g) t ≡ false → outcome_of s g ≡ Given v → found ≡ v ∷ []
-    → Gives (called s form gs (behind found (all_values (map (outcome_of s) gs)))) r → Gives (outcome_of s e) r
-method_is s e b g span name t es gs form v found r is p q a f w is_given q' h =
-    moved (outcome_of s e) (called s form gs (behind found (all_values (map (outcome_of s) gs)))) r
-    (method_layer s e b g span name t es gs form false is p q a f w
-    ∙ ap (λ z. called s form gs (all_values (z ∷ map (outcome_of s) gs))) is_given
-    ∙ ap (called s form gs) (one_before v (all_values (map (outcome_of s) gs)))
-    ∙ ap (λ z. called s form gs (behind z (all_values (map (outcome_of s) gs)))) (sym q')) h
+-- the value of an operand
+abbrev IsOneSided : Expr → Expr → Type 0
+IsOneSided e a = ((span : Span) × (e ≡ tree.Not span a)) ⊎ ((span : Span) × (e ≡ tree.Neg span a))
 
--- and one whose base stops
-pub method_stops : (s : Setting) (e b g : Expr) (span : Span) (name t : List ℕ) (es : List Expr) (why : Stop) → e ≡ tree.Method span b name es → g ≡ b
-    → t ≡ name → is_whole (out-Expr g) t ≡ false → Gives (outcome_of s g) (Err why) → Gives (outcome_of s e) (Err why)
-method_stops s e b g span name t es (stop.Fault fault) is p q w h =
-    method_layer s e b g span name t es es (form_of (out-Expr e)) false is p q refl refl w
-    ∙ ap (λ z. called s (form_of (out-Expr e)) es (all_values (z ∷ map (outcome_of s) es))) h
-method_stops s e b g span name t es stop.OutOfMemory is p q w h = tt
+operand_strict : (s : Setting) (e a : Expr) → IsOneSided e a → IsStrict s e (all_values (outcome_of s a ∷ []))
+operand_strict s e a (inl (span, is)) = strict_by s e _ _ (ap out-Expr is ∙ outs-Not span a) refl
+operand_strict s e a (inr (span, is)) = strict_by s e _ _ (ap out-Expr is ∙ outs-Neg span a) refl
 
-list_headed : (s : Setting) (all : Result (List Value) EvalFault) → headed s (Some head.list) all ≡ list_of all
-list_headed s (Ok vs) = refl
-list_headed s (Err fault) = refl
+pub operand_is : (s : Setting) (e a g : Expr) (found : List Value) (gathered : Result (List Value) Stop) (r : Result Value Stop) → IsOneSided e a → g ≡ a → found ≡ []
+    → Gathers (behind found (all_values (outcome_of s g ∷ []))) gathered → Makes s e gathered r → Gives (outcome_of s e) r
+operand_is s e a g found gathered r one p q h makes =
+    gives s e (all_values (outcome_of s g ∷ [])) gathered r (operand_strict s e g (subst (IsOneSided e) (sym p) one)) (from_nothing found _ gathered q h) makes
 
-pub many_is : (s : Setting) (e : Expr) (span : Span) (es gs : List Expr) (r : Result Value Stop) → e ≡ tree.Many span es → gs ≡ es
-    → Gives (list_of (all_values (map (outcome_of s) gs))) r → Gives (outcome_of s e) r
-many_is s e span es gs r is p h =
-    moved (outcome_of s e) (list_of (all_values (map (outcome_of s) gs))) r
-    (at_layer s e _ (ap out-Expr is ∙ outs-Many span es) ∙ ap (λ z. headed s (Some head.list) (all_values (map (outcome_of s) z))) (sym p) ∙ list_headed s (all_values (map (outcome_of s) gs))) h
+-- ---- values of a first part, and of others behind it
 
--- a call or a list whose parts are gathered, or stop
-pub called_from : (s : Setting) (form : Option Form) (arguments : List Expr) (all : Result (List Value) EvalFault) (vs : List Value) (r : Result Value Stop) → Gathers all (Ok vs) → Gives (called s form arguments (Ok vs)) r → Gives (called s form arguments all) r
-called_from s form arguments all vs r is h = moved (called s form arguments all) (called s form arguments (Ok vs)) r (ap (called s form arguments) is) h
+behind_first : (v : Value) (rest : Gathered) (first : List Value) (gathered : Result (List Value) Stop) → first ≡ v ∷ [] → Gathers (behind first rest) gathered → Gathers (with_first v rest) gathered
+behind_first v (Err fault) first gathered is h = h
+behind_first v (Ok ws) first gathered is h = subst (λ z. Gathers (Ok (z ++ ws)) gathered) is h
 
-pub called_stops : (s : Setting) (form : Option Form) (arguments : List Expr) (all : Result (List Value) EvalFault) (why : Stop) → Gathers all (Err why) → Gives (called s form arguments all) (Err why)
-called_stops s form arguments all (stop.Fault fault) h = ap (called s form arguments) h
-called_stops s form arguments all stop.OutOfMemory h = tt
+ok_same : (vs ws : List Value) (all : Gathered) → all ≡ Ok vs → all ≡ Ok ws → vs ≡ ws
+ok_same vs ws all h i = cc
 
-pub list_from : (all : Result (List Value) EvalFault) (vs : List Value) → Gathers (behind [] all) (Ok vs) → list_of all ≡ Given (value.Many vs)
-list_from all vs is = ap list_of (sym (nothing_before all) ∙ is)
+no_values : (fault : EvalFault) (vs : List Value) (all : Gathered) → all ≡ Err fault → all ≡ Ok vs → ⊥
+no_values fault vs all h i = let P : ⊥ = cc in P
 
-pub list_stops : (all : Result (List Value) EvalFault) (why : Stop) → Gathers (behind [] all) (Err why) → Gives (list_of all) (Err why)
-list_stops all (stop.Fault fault) h = ap list_of (sym (nothing_before all) ∙ h)
-list_stops all stop.OutOfMemory h = tt
+first_and_rest : (x : Outcome) (xs : List Outcome) (found first : List Value) (gathered : Result (List Value) Stop) → found ≡ [] → Gathers (behind found (all_values (x ∷ []))) (Ok first)
+    → Gathers (behind first (all_values xs)) gathered → Gathers (all_values (x ∷ xs)) gathered
+first_and_rest (Stopped fault) xs found first gathered is h rest = absurd (no_values fault first (Err fault) refl h)
+first_and_rest (Given v) xs found first gathered is h rest =
+    behind_first v (all_values xs) first gathered (ok_same first (v ∷ []) (Ok (v ∷ [])) (from_nothing found (Ok (v ∷ [])) (Ok first) is h) refl) rest
 
--- ---- operators
+first_alone : (x : Outcome) (xs : List Outcome) (found : List Value) (why : Stop) → found ≡ [] → Gathers (behind found (all_values (x ∷ []))) (Err why) → Gathers (all_values (x ∷ xs)) (Err why)
+first_alone (Stopped fault) xs found (stop.Fault other) is h = h
+first_alone (Given v) xs found (stop.Fault other) is h = absurd (no_values other (found ++ v ∷ []) (Ok (found ++ v ∷ [])) h refl)
+first_alone x xs found stop.OutOfMemory is h = tt
 
-one_headed : (s : Setting) (h : Head) (f : Value → Outcome) (o : Outcome) → ((v : Value) → apply s h (v ∷ []) ≡ f v) → headed s (Some h) (all_values (o ∷ [])) ≡ on_one f o
-one_headed s h f (Given v) same = same v
-one_headed s h f (Stopped fault) same = refl
+-- a method, which is one node with its base and its arguments, or has them as parts
+method_strict : (s : Setting) (e b g : Expr) (span : Span) (name t : List ℕ) (es gs : List Expr) (whole : Bool) → e ≡ tree.Method span b name es → g ≡ b → t ≡ name → gs ≡ es
+    → is_whole (out-Expr g) t ≡ whole → IsStrict s e (all_values (map (outcome_of s) (cond whole [] (g ∷ gs))))
+method_strict s e b g span name t es gs whole is p q a w =
+    strict_by s e _ _ (ap out-Expr is ∙ outs-Method span b name es)
+    (ap (λ (z : List Expr). headed s (head_of (Expr-F.Method span b name es)) (all_values (map (outcome_of s) z)))
+    (ap (λ (z : Expr). cond (is_whole (out-Expr z) name) [] (z ∷ es)) (sym p)
+    ∙ ap (λ (z : List ℕ). cond (is_whole (out-Expr g) z) [] (g ∷ es)) (sym q)
+    ∙ ap (λ (z : List Expr). cond (is_whole (out-Expr g) t) [] (g ∷ z)) (sym a)
+    ∙ ap (λ (z : Bool). cond z [] (g ∷ gs)) w))
 
-two_headed : (s : Setting) (o : Op) (x y : Outcome) → headed s (Some (head.two o)) (all_values (x ∷ y ∷ [])) ≡ on_two o x y
-two_headed s o (Stopped fault) y = refl
-two_headed s o (Given v) (Stopped fault) = refl
-two_headed s o (Given v) (Given w) = refl
+pub whole_is : (s : Setting) (e b g : Expr) (span : Span) (name t : List ℕ) (es : List Expr) (found : List Value) (r : Result Value Stop) → e ≡ tree.Method span b name es → g ≡ b → t ≡ name
+    → is_whole (out-Expr g) t ≡ true → found ≡ [] → Makes s e (Ok found) r → Gives (outcome_of s e) r
+whole_is s e b g span name t es found r is p q w empty makes =
+    gives s e (Ok []) (Ok found) r (method_strict s e b g span name t es es true is p q refl w) (ap (λ z. Ok z) (sym empty)) makes
 
-sides_same : (s : Setting) (o : Op) (x y : Outcome) → two_outcome s o x y ≡ two_sides o x y
-sides_same s op.And x y = refl
-sides_same s op.Or x y = refl
-sides_same s op.Lt x y = two_headed s op.Lt x y
-sides_same s op.Le x y = two_headed s op.Le x y
-sides_same s op.Gt x y = two_headed s op.Gt x y
-sides_same s op.Ge x y = two_headed s op.Ge x y
-sides_same s op.Eq x y = two_headed s op.Eq x y
-sides_same s op.Ne x y = two_headed s op.Ne x y
-sides_same s op.In x y = two_headed s op.In x y
-sides_same s op.Add x y = two_headed s op.Add x y
-sides_same s op.Sub x y = two_headed s op.Sub x y
-sides_same s op.Mul x y = two_headed s op.Mul x y
-sides_same s op.Div x y = two_headed s op.Div x y
-sides_same s op.Rem x y = two_headed s op.Rem x y
+pub method_is : (s : Setting) (e b g : Expr) (span : Span) (name t : List ℕ) (es gs : List Expr) (found first : List Value) (gathered : Result (List Value) Stop) (r : Result Value Stop)
+    → e ≡ tree.Method span b name es → g ≡ b → t ≡ name → gs ≡ es → is_whole (out-Expr g) t ≡ false → found ≡ [] → Gathers (behind found (all_values (outcome_of s g ∷ []))) (Ok first)
+    → Gathers (behind first (all_values (map (outcome_of s) gs))) gathered → Makes s e gathered r → Gives (outcome_of s e) r
+method_is s e b g span name t es gs found first gathered r is p q a w empty h rest makes =
+    gives s e (all_values (map (outcome_of s) (g ∷ gs))) gathered r (method_strict s e b g span name t es gs false is p q a w)
+    (first_and_rest (outcome_of s g) (map (outcome_of s) gs) found first gathered empty h rest) makes
 
-pub not_is : (s : Setting) (e a g : Expr) (span : Span) (r : Result Value Stop) → e ≡ tree.Not span a → g ≡ a → Gives (on_one negation (outcome_of s g)) r → Gives (outcome_of s e) r
-not_is s e a g span r is p h =
-    moved (outcome_of s e) (on_one negation (outcome_of s g)) r
-    (at_layer s e _ (ap out-Expr is ∙ outs-Not span a)
-    ∙ ap (λ z. headed s (Some head.not) (all_values (outcome_of s z ∷ []))) (sym p)
-    ∙ one_headed s head.not negation (outcome_of s g) (λ v. refl)) h
+pub method_stops : (s : Setting) (e b g : Expr) (span : Span) (name t : List ℕ) (es : List Expr) (found : List Value) (why : Stop) → e ≡ tree.Method span b name es → g ≡ b → t ≡ name
+    → is_whole (out-Expr g) t ≡ false → found ≡ [] → Gathers (behind found (all_values (outcome_of s g ∷ []))) (Err why) → Gives (outcome_of s e) (Err why)
+method_stops s e b g span name t es found why is p q w empty h =
+    stops s e (all_values (map (outcome_of s) (g ∷ es))) why (method_strict s e b g span name t es es false is p q refl w)
+    (first_alone (outcome_of s g) (map (outcome_of s) es) found why empty h)
 
-pub neg_is : (s : Setting) (e a g : Expr) (span : Span) (r : Result Value Stop) → e ≡ tree.Neg span a → g ≡ a → Gives (on_one opposite (outcome_of s g)) r → Gives (outcome_of s e) r
-neg_is s e a g span r is p h =
-    moved (outcome_of s e) (on_one opposite (outcome_of s g)) r
-    (at_layer s e _ (ap out-Expr is ∙ outs-Neg span a)
-    ∙ ap (λ z. headed s (Some head.negative) (all_values (outcome_of s z ∷ []))) (sym p)
-    ∙ one_headed s head.negative opposite (outcome_of s g) (λ v. refl)) h
+-- ---- operators of two sides
 
-pub two_is : (s : Setting) (e a b g h : Expr) (span : Span) (o : Op) (left : Outcome) (r : Result Value Stop) → e ≡ tree.Two span o a b → g ≡ a → h ≡ b → left ≡ outcome_of s g
-    → Gives (two_sides o left (outcome_of s h)) r → Gives (outcome_of s e) r
-two_is s e a b g h span o left r is p q l given =
-    moved (outcome_of s e) (two_sides o left (outcome_of s h)) r
-    (at_layer s e _ (ap out-Expr is ∙ outs-Two span o a b)
-    ∙ ap (λ z. two_outcome s o (outcome_of s z) (outcome_of s b)) (sym p)
-    ∙ ap (λ z. two_outcome s o z (outcome_of s b)) (sym l)
-    ∙ ap (λ z. two_outcome s o left (outcome_of s z)) (sym q)
-    ∙ sides_same s o left (outcome_of s h)) given
+-- by the truth of a side that decides the operator, where there is one
+abbrev two_by : Setting → Op → Option Bool → Outcome → Outcome → Outcome
+two_by s o (Some b) x y = junction b (side_of b x) (side_of b y)
+two_by s o None x y = headed s (Some (head.two o)) (all_values (x ∷ y ∷ []))
+
+by_tests : (b p q : Bool) → cond (p || q) (truth b) (truth (not b)) ≡ junction b (cond p Decides Passes) (cond q Decides Passes)
+by_tests b true q = refl
+by_tests b false true = refl
+by_tests b false false = refl
+
+by_left : (b p : Bool) (fault : EvalFault) → cond (p || false) (truth b) (Stopped fault) ≡ junction b (cond p Decides Passes) (Stops fault)
+by_left b true fault = refl
+by_left b false fault = refl
+
+by_right : (b q : Bool) (fault : EvalFault) → cond q (truth b) (Stopped fault) ≡ junction b (Stops fault) (cond q Decides Passes)
+by_right b true fault = refl
+by_right b false fault = refl
+
+-- a conjunction or a disjunction, by what its sides say
+by_sides : (b : Bool) (x y : Outcome) → cond (comes_to b x || comes_to b y) (truth b) (first_stop x y (truth (not b))) ≡ junction b (side_of b x) (side_of b y)
+by_sides b (Given v) (Given w) = by_tests b (value_is b (out-Value v)) (value_is b (out-Value w))
+by_sides b (Given v) (Stopped fault) = by_left b (value_is b (out-Value v)) fault
+by_sides b (Stopped fault) (Given w) = by_right b (value_is b (out-Value w)) fault
+by_sides b (Stopped fault) (Stopped other) = refl
+
+two_same : (s : Setting) (o : Op) (x y : Outcome) → two_outcome s o x y ≡ two_by s o (decisive o) x y
+two_same s op.And x y = by_sides false x y
+two_same s op.Or x y = by_sides true x y
+two_same s op.Lt x y = refl
+two_same s op.Le x y = refl
+two_same s op.Gt x y = refl
+two_same s op.Ge x y = refl
+two_same s op.Eq x y = refl
+two_same s op.Ne x y = refl
+two_same s op.In x y = refl
+two_same s op.Add x y = refl
+two_same s op.Sub x y = refl
+two_same s op.Mul x y = refl
+two_same s op.Div x y = refl
+two_same s op.Rem x y = refl
+
+two_layer : (s : Setting) (e a b g h : Expr) (span : Span) (o : Op) (decided : Option Bool) → e ≡ tree.Two span o a b → g ≡ a → h ≡ b → decided ≡ decisive o
+    → outcome_of s e ≡ two_by s o decided (outcome_of s g) (outcome_of s h)
+two_layer s e a b g h span o decided is p q d =
+    at_layer s e _ (ap out-Expr is ∙ outs-Two span o a b)
+    ∙ two_same s o (outcome_of s a) (outcome_of s b)
+    ∙ ap (λ z. two_by s o z (outcome_of s a) (outcome_of s b)) (sym d)
+    ∙ ap (λ z. two_by s o decided (outcome_of s z) (outcome_of s b)) (sym p)
+    ∙ ap (λ z. two_by s o decided (outcome_of s g) (outcome_of s z)) (sym q)
+
+two_strict : (s : Setting) (e a b g h : Expr) (span : Span) (o : Op) (decided : Option Bool) → e ≡ tree.Two span o a b → g ≡ a → h ≡ b → decided ≡ decisive o → decided ≡ None
+    → IsStrict s e (all_values (outcome_of s g ∷ outcome_of s h ∷ []))
+two_strict s e a b g h span o decided is p q d none =
+    two_layer s e a b g h span o decided is p q d
+    ∙ ap (λ z. two_by s o z (outcome_of s g) (outcome_of s h)) none
+    ∙ ap (λ z. headed s (head_of z) (all_values (outcome_of s g ∷ outcome_of s h ∷ []))) (sym (ap out-Expr is ∙ outs-Two span o a b))
+
+pub two_is : (s : Setting) (e a b g h : Expr) (span : Span) (o : Op) (decided : Option Bool) (found first : List Value) (gathered : Result (List Value) Stop) (r : Result Value Stop)
+    → e ≡ tree.Two span o a b → g ≡ a → h ≡ b → decided ≡ decisive o → decided ≡ None → found ≡ [] → Gathers (behind found (all_values (outcome_of s g ∷ []))) (Ok first)
+    → Gathers (behind first (all_values (outcome_of s h ∷ []))) gathered → Makes s e gathered r → Gives (outcome_of s e) r
+two_is s e a b g h span o decided found first gathered r is p q d none empty left right makes =
+    gives s e (all_values (outcome_of s g ∷ outcome_of s h ∷ [])) gathered r (two_strict s e a b g h span o decided is p q d none)
+    (first_and_rest (outcome_of s g) (outcome_of s h ∷ []) found first gathered empty left right) makes
+
+pub two_stops : (s : Setting) (e a b g : Expr) (span : Span) (o : Op) (decided : Option Bool) (found : List Value) (why : Stop) → e ≡ tree.Two span o a b → g ≡ a → decided ≡ decisive o → decided ≡ None
+    → found ≡ [] → Gathers (behind found (all_values (outcome_of s g ∷ []))) (Err why) → Gives (outcome_of s e) (Err why)
+two_stops s e a b g span o decided found why is p d none empty left =
+    stops s e (all_values (outcome_of s g ∷ outcome_of s b ∷ [])) why (two_strict s e a b g b span o decided is p refl d none)
+    (first_alone (outcome_of s g) (outcome_of s b ∷ []) found why empty left)
+
+pub junction_is : (s : Setting) (e a b g h : Expr) (span : Span) (o : Op) (decided : Option Bool) (c : Bool) (left : Side) (r : Result Value Stop) → e ≡ tree.Two span o a b → g ≡ a → h ≡ b
+    → decided ≡ decisive o → decided ≡ Some c → left ≡ side_of c (outcome_of s g) → Gives (junction c left (side_of c (outcome_of s h))) r → Gives (outcome_of s e) r
+junction_is s e a b g h span o decided c left r is p q d some l given =
+    moved (outcome_of s e) (junction c left (side_of c (outcome_of s h))) r
+    (two_layer s e a b g h span o decided is p q d
+    ∙ ap (λ z. two_by s o z (outcome_of s g) (outcome_of s h)) some
+    ∙ ap (λ z. junction c z (side_of c (outcome_of s h))) (sym l)) given
+
+-- ---- a choice
 
 pick_layer : (s : Setting) (e d a b g h i : Expr) (span : Span) → e ≡ tree.Pick span d a b → g ≡ d → h ≡ a → i ≡ b
     → outcome_of s e ≡ choice (outcome_of s g) (outcome_of s h) (outcome_of s i)

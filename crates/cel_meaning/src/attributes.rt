@@ -1,12 +1,12 @@
 // Attributes of the request, and the roles whose grants it modifies.
-ghost use Rattle.std.specs.Prelude.{◌≡◌, Option, map};
+ghost use Rattle.std.specs.Prelude.{◌≡◌, map};
 ghost use Rattle.cel_types.specs.Tags.{attribute_outcome};
 ghost use Rattle.cel_value.specs.declared.value.Outcome.TheVariants.{Given};
 ghost use Rattle.cel_value.specs.declared.value.Value.TheVariants as value;
-ghost use Rattle.cel_meaning.specs.Results.{Gives, at, selected};
+ghost use Rattle.cel_meaning.specs.Results.{Gives};
 
 use crate::operators::done;
-use crate::stop::{NO_VALUE, Stop};
+use crate::stop::Stop;
 use crate::time::{checked_time, nanos_of_seconds};
 use cel_types::Attribute;
 use cel_value::{Facts, Value};
@@ -20,7 +20,8 @@ pub fn string(alloc: Global, text: &str) -> Result<Value, Stop>
     Ok(Value::Str(text))
 }
 
-fn attribute<F: Facts>(alloc: Global, attribute: Attribute, facts: &F) -> Result<Value, Stop>
+/// An attribute of the request.
+pub fn attribute<F: Facts>(alloc: Global, attribute: Attribute, facts: &F) -> Result<Value, Stop>
     ensures { Gives (attribute_outcome (F.context facts.now) attribute) result }
 {
     match attribute {
@@ -30,16 +31,6 @@ fn attribute<F: Facts>(alloc: Global, attribute: Attribute, facts: &F) -> Result
         Attribute::RequestTime => done(checked_time(nanos_of_seconds(facts.moment().0))),
         Attribute::PrincipalType => string(alloc, facts.principal_kind()),
         Attribute::PrincipalSubject => string(alloc, facts.principal_subject()),
-    }
-}
-
-/// What a field of a base comes to, which is an attribute or nothing.
-pub fn selected<F: Facts>(alloc: Global, found: Option<Attribute>, facts: &F) -> Result<Value, Stop>
-    ensures { Gives (selected (at (F.context facts.now)) found) result }
-{
-    match found {
-        Some(found) => attribute(alloc, found, facts),
-        None => Err(Stop::Fault(NO_VALUE)),
     }
 }
 

@@ -1,17 +1,17 @@
-ghost use Rattle.std.specs.Prelude.{◌≡◌, map, IfOk};
-ghost use Rattle.cel_value.specs.declared.value.Outcome.TheVariants.{Given};
+ghost use Rattle.std.specs.Prelude.{◌≡◌, [], ◌∷◌, map, IfOk};
+ghost use Rattle.cel_tree.specs.declared.tree.Expr.{out-Expr};
+ghost use Rattle.cel_types.specs.Heads.{head_of};
 ghost use Rattle.cel_types.specs.Laws.{IsTruthOrFault};
 ghost use Rattle.cel_types.specs.Means.{Means};
-ghost use Rattle.cel_meaning.specs.Apply.{negation, opposite};
-ghost use Rattle.cel_meaning.specs.OutcomeOf.{all_values, outcome_of};
-ghost use Rattle.cel_meaning.specs.Results.{Gathers, Gives, at, behind, called, junction, list_of, on_one, on_two, two_sides};
+ghost use Rattle.cel_meaning.specs.OutcomeOf.{all_values, headed, outcome_of};
+ghost use Rattle.cel_meaning.specs.Results.{Gathered, Gathers, Gives, at, behind, junction, side_of};
 
-use crate::attributes::{selected, string};
-use crate::forms::called;
-use crate::operators::{comes_to, decision, done, first_fault, negation, opposite, two_values};
+use crate::apply::apply;
+use crate::head::head_of;
+use crate::operators::{Side, decision, decisive, done, junction, side_of};
 use crate::stop::{NO_VALUE, Stop};
-use cel_tree::{Expr, Op};
-use cel_types::{Form, Typed, attribute_of, conditions_come_to_truths, form_of, is_whole};
+use cel_tree::Expr;
+use cel_types::{Typed, conditions_come_to_truths, is_whole};
 use cel_value::{Facts, Outcome, Value};
 use iam_text::{List, OutOfMemory};
 use std::alloc::Global;
@@ -26,7 +26,6 @@ pub fn evaluate<F: Facts>(alloc: Global, typed: &Typed, facts: &F) -> Result<Out
     outcome(alloc, typed.expr(), facts)
 }
 
-#[cycle(evaluation)]
 fn outcome<F: Facts>(alloc: Global, expr: &Expr, facts: &F) -> Result<Outcome, OutOfMemory>
     ensures { IfOk result (λ o. o ≡ outcome_of (at (F.context facts.now)) expr.now) }
 {
@@ -37,52 +36,85 @@ fn outcome<F: Facts>(alloc: Global, expr: &Expr, facts: &F) -> Result<Outcome, O
     }
 }
 
+// A node all of whose parts are evaluated, to these values or a stop. No condition has one without a head.
+fn headed<F: Facts>(
+    alloc: Global,
+    expr: &Expr,
+    gathered: Result<List<Value>, Stop>,
+    facts: &F,
+) -> Result<Value, Stop>
+    ensures { (all : Gathered) → Gathers all gathered → Gives (headed (at (F.context facts.now)) (head_of (out-Expr expr.now)) all) result }
+{
+    match gathered {
+        Ok(values) => match head_of(expr) {
+            Some(head) => apply(alloc, head, values, facts),
+            None => Err(Stop::Fault(NO_VALUE)),
+        },
+        Err(stop) => Err(stop),
+    }
+}
+
 #[cycle(evaluation)]
 fn value<F: Facts>(alloc: Global, expr: &Expr, facts: &F) -> Result<Value, Stop>
     ensures { Gives (outcome_of (at (F.context facts.now)) expr.now) result }
 {
     match expr {
-        Expr::Bool(_, truth) => Ok(Value::Bool(*truth)),
-        Expr::Int(_, number) => Ok(Value::Int(*number)),
-        Expr::Str(_, text) => string(alloc, text.as_str()),
-        Expr::Name(..) => Err(Stop::Fault(NO_VALUE)),
-        Expr::Select(_, base, field) => {
-            selected(alloc, attribute_of(base.get(), field.as_str()), facts)
+        Expr::Bool(..) | Expr::Int(..) | Expr::Str(..) | Expr::Name(..) | Expr::Select(..) => {
+            headed(alloc, expr, Ok(List::new(alloc)), facts)
         }
-        Expr::Call(_, _, arguments) => {
-            call(
-                alloc,
-                arguments.as_slice(),
-                List::new(alloc),
-                form_of(expr),
-                facts,
-            )
+        Expr::Call(_, _, items) | Expr::Many(_, items) => {
+            let found = values(alloc, items.as_slice(), List::new(alloc), facts);
+            headed(alloc, expr, found, facts)
         }
         Expr::Method(_, base, name, arguments) => {
             let base = base.get();
             if is_whole(base, name.as_str()) {
-                return called(alloc, form_of(expr), arguments.as_slice(), &[], facts);
+                return headed(alloc, expr, Ok(List::new(alloc)), facts);
             }
-            let mut found = List::new(alloc);
-            found.push(value(alloc, base, facts)?)?;
-            call(alloc, arguments.as_slice(), found, form_of(expr), facts)
+            let first = with_value(alloc, base, List::new(alloc), facts)?;
+            let found = values(alloc, arguments.as_slice(), first, facts);
+            headed(alloc, expr, found, facts)
         }
-        Expr::Many(_, items) => list(alloc, items.as_slice(), facts),
-        Expr::Not(_, operand) => not(alloc, operand.get(), facts),
-        Expr::Neg(_, operand) => minus(alloc, operand.get(), facts),
-        Expr::Two(_, op, left, right) => {
-            let left = outcome(alloc, left.get(), facts)?;
-            two(alloc, right.get(), *op, left, facts)
+        Expr::Not(_, operand) | Expr::Neg(_, operand) => {
+            let found = with_value(alloc, operand.get(), List::new(alloc), facts);
+            headed(alloc, expr, found, facts)
         }
+        Expr::Two(_, op, left, right) => match decisive(*op) {
+            Some(truth) => {
+                let left = side(alloc, left.get(), truth, facts)?;
+                either(alloc, right.get(), truth, left, facts)
+            }
+            None => {
+                let first = with_value(alloc, left.get(), List::new(alloc), facts)?;
+                let found = with_value(alloc, right.get(), first, facts);
+                headed(alloc, expr, found, facts)
+            }
+        },
         Expr::Pick(_, condition, picked, other) => {
             let condition = value(alloc, condition.get(), facts)?;
-            if decision(&condition)? {
+            if decision(condition)? {
                 value(alloc, picked.get(), facts)
             } else {
                 value(alloc, other.get(), facts)
             }
         }
     }
+}
+
+// The value of a node, behind others.
+#[cycle(evaluation)]
+fn with_value<F: Facts>(
+    alloc: Global,
+    expr: &Expr,
+    found: List<Value>,
+    facts: &F,
+) -> Result<List<Value>, Stop>
+    ensures { Gathers (behind found (all_values (outcome_of (at (F.context facts.now)) expr.now ∷ []))) result }
+{
+    let mut found = found;
+    let item = value(alloc, expr, facts)?;
+    found.push(item)?;
+    Ok(found)
 }
 
 // The values of some nodes, from left to right, behind others.
@@ -103,112 +135,37 @@ fn values<F: Facts>(
     Ok(found)
 }
 
-// A function or a method, some of whose parts have values.
+// What a side of `&&` or `||` says of the whole.
 #[cycle(evaluation)]
-fn call<F: Facts>(
+fn side<F: Facts>(
     alloc: Global,
-    arguments: &[Expr],
-    found: List<Value>,
-    form: Option<Form>,
+    expr: &Expr,
+    decisive: bool,
     facts: &F,
-) -> Result<Value, Stop>
-    ensures { let s = at (F.context facts.now) in Gives (called s form arguments.now (behind found (all_values (map (outcome_of s) arguments.now)))) result }
+) -> Result<Side, OutOfMemory>
+    ensures { IfOk result (λ side. side ≡ side_of decisive (outcome_of (at (F.context facts.now)) expr.now)) }
 {
-    let values = values(alloc, arguments, found, facts)?;
-    called(alloc, form, arguments, values.as_slice(), facts)
-}
-
-#[cycle(evaluation)]
-fn list<F: Facts>(alloc: Global, items: &[Expr], facts: &F) -> Result<Value, Stop>
-    ensures { Gives (list_of (all_values (map (outcome_of (at (F.context facts.now))) items.now))) result }
-{
-    let items = values(alloc, items, List::new(alloc), facts)?;
-    Ok(Value::Many(items))
-}
-
-#[cycle(evaluation)]
-fn not<F: Facts>(alloc: Global, operand: &Expr, facts: &F) -> Result<Value, Stop>
-    ensures { Gives (on_one negation (outcome_of (at (F.context facts.now)) operand.now)) result }
-{
-    let operand = value(alloc, operand, facts)?;
-    done(negation(&operand))
-}
-
-#[cycle(evaluation)]
-fn minus<F: Facts>(alloc: Global, operand: &Expr, facts: &F) -> Result<Value, Stop>
-    ensures { Gives (on_one opposite (outcome_of (at (F.context facts.now)) operand.now)) result }
-{
-    let operand = value(alloc, operand, facts)?;
-    done(opposite(&operand))
-}
-
-// An operator of two sides, behind its left one.
-#[cycle(evaluation)]
-fn two<F: Facts>(
-    alloc: Global,
-    right: &Expr,
-    op: Op,
-    left: Outcome,
-    facts: &F,
-) -> Result<Value, Stop>
-    ensures { Gives (two_sides op left (outcome_of (at (F.context facts.now)) right.now)) result }
-{
-    match op {
-        Op::And => either(alloc, right, false, left, facts),
-        Op::Or => either(alloc, right, true, left, facts),
-        Op::Lt
-        | Op::Le
-        | Op::Gt
-        | Op::Ge
-        | Op::Eq
-        | Op::Ne
-        | Op::In
-        | Op::Add
-        | Op::Sub
-        | Op::Mul
-        | Op::Div
-        | Op::Rem => both(alloc, right, op, left, facts),
+    match value(alloc, expr, facts) {
+        Ok(found) => Ok(side_of(decisive, found)),
+        Err(Stop::Fault(fault)) => Ok(Side::Stops(fault)),
+        Err(Stop::OutOfMemory) => Err(OutOfMemory),
     }
 }
 
-// `&&` and `||`, where either side may come to the truth that decides. The right side isn't asked where the left one does.
+// `&&` or `||`, behind its left side. The right side isn't asked where the left one decides.
 #[cycle(evaluation)]
 fn either<F: Facts>(
     alloc: Global,
     right: &Expr,
     decisive: bool,
-    left: Outcome,
+    left: Side,
     facts: &F,
 ) -> Result<Value, Stop>
-    ensures { Gives (junction decisive left (outcome_of (at (F.context facts.now)) right.now)) result }
+    ensures { Gives (junction decisive left (side_of decisive (outcome_of (at (F.context facts.now)) right.now))) result }
 {
-    if comes_to(decisive, &left) {
+    if let Side::Decides = left {
         return Ok(Value::Bool(decisive));
     }
-    let right = outcome(alloc, right, facts)?;
-    if comes_to(decisive, &right) {
-        return Ok(Value::Bool(decisive));
-    }
-    match first_fault(&left, &right) {
-        Some(fault) => Err(Stop::Fault(fault)),
-        None => Ok(Value::Bool(!decisive)),
-    }
-}
-
-#[cycle(evaluation)]
-fn both<F: Facts>(
-    alloc: Global,
-    right: &Expr,
-    op: Op,
-    left: Outcome,
-    facts: &F,
-) -> Result<Value, Stop>
-    ensures { Gives (on_two op left (outcome_of (at (F.context facts.now)) right.now)) result }
-{
-    let left = match left {
-        Outcome::Given(left) => left,
-        Outcome::Stopped(fault) => return Err(Stop::Fault(fault)),
-    };
-    let right = value(alloc, right, facts)?;
-    two_values(alloc, op, &left, &right)
+    let right = side(alloc, right, decisive, facts)?;
+    done(junction(decisive, left, right))
 }

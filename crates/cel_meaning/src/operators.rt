@@ -1,64 +1,116 @@
 // Operators, applied to values.
 ghost use Rattle.std.specs.Prelude.{◌≡◌};
-ghost use Rattle.cel_types.specs.Means.{comes_to, first_stop};
+ghost use Rattle.cel_types.specs.Means.{value_is};
 ghost use Rattle.cel_value.specs.declared.value.Outcome.{Outcome};
+ghost use Rattle.cel_value.specs.declared.value.Outcome.TheVariants.{Given};
 ghost use Rattle.cel_value.specs.declared.value.Value.{out-Value};
-ghost use Rattle.cel_meaning.specs.Apply.{choice_layer, difference_layer, member_layer, negation, opposite, product_layer, quotient_layer, remainder_layer, sum_layer, two_values};
-ghost use Rattle.cel_meaning.specs.Results.{Gives, fault_or, outcome, picked};
+ghost use Rattle.cel_meaning.specs.Apply.{choice_layer, difference_layer, member_layer, negation, of_one, of_two, opposite, product_layer, quotient_layer, remainder_layer, sum_layer, two_values};
+ghost use Rattle.cel_meaning.specs.Results.{Gives, decisive, junction, outcome, picked, side_of};
 
 use crate::lists::{is_below, is_in, same_value};
 use crate::stop::{NO_VALUE, Stop};
 use crate::texts::joined;
 use crate::{numbers, time};
 use cel_tree::Op;
-use cel_value::{EvalFault, Outcome, Value};
+use cel_value::{EvalFault, Value};
+use iam_text::let_go;
 use std::alloc::Global;
 
-/// Whether the outcome is this truth.
-pub fn comes_to(truth: bool, side: &Outcome) -> bool
-    ensures { result ≡ comes_to truth side.now }
+/// What a side of `&&` or `||` says of the whole.
+#[derive(Clone, Copy)]
+pub enum Side {
+    Decides,
+    Passes,
+    Stops(EvalFault),
+}
+
+/// The truth of a side by which `&&` and `||` are decided, whatever the other side comes to. Both sides of the others are evaluated.
+pub fn decisive(op: Op) -> Option<bool>
+    ensures { result ≡ decisive op }
+{
+    match op {
+        Op::Or => Some(true),
+        Op::And => Some(false),
+        Op::Lt
+        | Op::Le
+        | Op::Gt
+        | Op::Ge
+        | Op::Eq
+        | Op::Ne
+        | Op::In
+        | Op::Add
+        | Op::Sub
+        | Op::Mul
+        | Op::Div
+        | Op::Rem => None,
+    }
+}
+
+fn value_is(truth: bool, side: &Value) -> bool
+    ensures { result ≡ value_is truth (out-Value side.now) }
 {
     match side {
-        Outcome::Given(Value::Bool(found)) => *found == truth,
+        Value::Bool(found) => *found == truth,
         _ => false,
     }
 }
 
-/// The fault of the first side, else of the second, if there is one.
-pub fn first_fault(left: &Outcome, right: &Outcome) -> Option<EvalFault>
-    ensures { (o : Outcome) → first_stop left.now right.now o ≡ fault_or o result }
+/// What a side with this value says of the whole.
+pub fn side_of(decisive: bool, side: Value) -> Side
+    ensures { result ≡ side_of decisive (Given side) }
+{
+    let decides = value_is(decisive, &side);
+    let_go(side);
+    if decides { Side::Decides } else { Side::Passes }
+}
+
+/// What two sides come to: where either decides, its truth, else the first fault, else the other truth.
+pub fn junction(decisive: bool, left: Side, right: Side) -> Result<Value, EvalFault>
+    ensures { outcome result ≡ junction decisive left right }
 {
     match (left, right) {
-        (Outcome::Stopped(fault), _) => Some(*fault),
-        (Outcome::Given(_), Outcome::Stopped(fault)) => Some(*fault),
-        (Outcome::Given(_), Outcome::Given(_)) => None,
+        (Side::Decides, _) => Ok(Value::Bool(decisive)),
+        (Side::Passes, Side::Decides) => Ok(Value::Bool(decisive)),
+        (Side::Passes, Side::Passes) => Ok(Value::Bool(!decisive)),
+        (Side::Passes, Side::Stops(fault)) => Err(fault),
+        (Side::Stops(_), Side::Decides) => Ok(Value::Bool(decisive)),
+        (Side::Stops(fault), Side::Passes) => Err(fault),
+        (Side::Stops(fault), Side::Stops(_)) => Err(fault),
     }
 }
 
-/// Which of two branches is evaluated.
-pub fn decision(condition: &Value) -> Result<bool, EvalFault>
-    ensures { (x y : Outcome) → choice_layer (out-Value condition.now) x y ≡ picked result x y }
+fn truth_of(value: &Value) -> Result<bool, EvalFault>
+    ensures { (x y : Outcome) → choice_layer (out-Value value.now) x y ≡ picked result x y }
 {
-    match condition {
+    match value {
         Value::Bool(truth) => Ok(*truth),
         _ => Err(NO_VALUE),
     }
 }
 
-pub fn negation(operand: &Value) -> Result<Value, EvalFault>
-    ensures { outcome result ≡ negation operand.now }
+/// Which of two branches is evaluated.
+pub fn decision(condition: Value) -> Result<bool, EvalFault>
+    ensures { (x y : Outcome) → choice_layer (out-Value condition) x y ≡ picked result x y }
 {
-    match operand {
-        Value::Bool(truth) => Ok(Value::Bool(!*truth)),
+    let truth = truth_of(&condition);
+    let_go(condition);
+    truth
+}
+
+pub fn negation(values: &[Value]) -> Result<Value, EvalFault>
+    ensures { outcome result ≡ of_one negation values.now }
+{
+    match values {
+        [Value::Bool(truth)] => Ok(Value::Bool(!*truth)),
         _ => Err(NO_VALUE),
     }
 }
 
-pub fn opposite(operand: &Value) -> Result<Value, EvalFault>
-    ensures { outcome result ≡ opposite operand.now }
+pub fn opposite(values: &[Value]) -> Result<Value, EvalFault>
+    ensures { outcome result ≡ of_one opposite values.now }
 {
-    match operand {
-        Value::Int(n) => numbers::negative(*n),
+    match values {
+        [Value::Int(n)] => numbers::negative(*n),
         _ => Err(NO_VALUE),
     }
 }
@@ -137,8 +189,7 @@ fn membership(item: &Value, list: &Value) -> Result<Value, EvalFault>
     }
 }
 
-/// What an operator comes to, both of whose sides are evaluated.
-pub fn two_values(alloc: Global, op: Op, left: &Value, right: &Value) -> Result<Value, Stop>
+fn two_values(alloc: Global, op: Op, left: &Value, right: &Value) -> Result<Value, Stop>
     ensures { Gives (two_values op left.now right.now) result }
 {
     match op {
@@ -156,5 +207,15 @@ pub fn two_values(alloc: Global, op: Op, left: &Value, right: &Value) -> Result<
         Op::Mul => done(product(left, right)),
         Op::Div => done(quotient(left, right)),
         Op::Rem => done(remainder(left, right)),
+    }
+}
+
+/// What an operator of two sides comes to, both of which are evaluated.
+pub fn of_two(alloc: Global, op: Op, values: &[Value]) -> Result<Value, Stop>
+    ensures { Gives (of_two op values.now) result }
+{
+    match values {
+        [left, right] => two_values(alloc, op, left, right),
+        _ => Err(Stop::Fault(NO_VALUE)),
     }
 }

@@ -36,8 +36,8 @@ pub fn ends_with(text: &str, part: &str) -> bool
     text.as_bytes().ends_with(part.as_bytes())
 }
 
-// What stands before the name in a template.
-fn prefix_of(template: &str) -> &str
+/// What stands before the name in a template.
+pub fn prefix_of(template: &str) -> &str
     ensures { result.now ≡ prefix_of template.entry.now }
 {
     match template.split_once('{') {
@@ -46,7 +46,8 @@ fn prefix_of(template: &str) -> &str
     }
 }
 
-fn suffix_of(template: &str) -> &str
+/// What stands behind the name in a template.
+pub fn suffix_of(template: &str) -> &str
     ensures { result.now ≡ suffix_of template.entry.now }
 {
     match template.split_once('}') {
@@ -85,12 +86,12 @@ fn up_to<'a>(suffix: &str, text: &'a str) -> &'a str
     }
 }
 
-/// What a template's name stands for in a text.
-pub fn extracted<'a>(text: &'a str, template: &str) -> &'a str
-    ensures { result.now ≡ extracted (prefix_of template.now) (suffix_of template.now) text.entry.now }
+/// What stands in a text behind a prefix, up to a suffix.
+pub fn extracted<'a>(text: &'a str, prefix: &str, suffix: &str) -> &'a str
+    ensures { result.now ≡ extracted prefix.now suffix.now text.entry.now }
 {
-    match behind_text(prefix_of(template), text) {
-        Some(rest) => up_to(suffix_of(template), rest),
+    match behind_text(prefix, text) {
+        Some(rest) => up_to(suffix, rest),
         None => "",
     }
 }

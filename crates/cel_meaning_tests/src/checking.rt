@@ -1,6 +1,6 @@
 use cel_tree::{Boxed, Expr, Span};
 use cel_types::{Place, TypeFault, TypeKind, check};
-use iam_text::{List, OutOfMemory, Text};
+use iam_text::{List, OutOfMemory, Text, let_go};
 use std::alloc::Global;
 use std::test::Fail;
 
@@ -20,7 +20,10 @@ fn has_tag(alloc: Global) -> Result<Expr, OutOfMemory> {
 // The fault of an expression as a condition, in a function that ensures nothing.
 fn fault_in(expr: Expr, place: Place) -> Option<TypeFault> {
     match check(expr, place) {
-        Ok(_) => None,
+        Ok(typed) => {
+            let_go(typed);
+            None
+        }
         Err(fault) => Some(fault),
     }
 }

@@ -3,7 +3,7 @@ use cel_meaning::evaluate;
 use cel_syntax::{ReadStop, read};
 use cel_types::{Place, Typed, check};
 use cel_value::{Context, EvalFault, Outcome, Value};
-use iam_text::OutOfMemory;
+use iam_text::let_go;
 use std::alloc::Global;
 use std::test::Fail;
 
@@ -159,14 +159,6 @@ static CONDITIONS: [(&str, Named); 78] = [
     ("[].hasOnly(['roles/editor'])", "True"),
 ];
 
-// The condition that a text is, in a function that ensures nothing.
-fn typed(alloc: Global, place: Place, text: &str) -> Result<Option<Typed>, ReadStop> {
-    match check(read(alloc, text)?, place) {
-        Ok(typed) => Ok(Some(typed)),
-        Err(_) => Ok(None),
-    }
-}
-
 fn name_of(outcome: &Outcome) -> Named {
     match outcome {
         Outcome::Given(Value::Bool(true)) => "True",
@@ -181,18 +173,27 @@ fn name_of(outcome: &Outcome) -> Named {
     }
 }
 
-fn evaluated(alloc: Global, typed: &Typed, facts: &Context) -> Result<Named, OutOfMemory> {
-    let outcome = evaluate(alloc, typed, facts)?;
-    Ok(name_of(&outcome))
+fn named(outcome: Outcome) -> Named {
+    let name = name_of(&outcome);
+    let_go(outcome);
+    name
+}
+
+// Values of many kinds are let go before anything can be refused.
+fn evaluated(alloc: Global, typed: Typed, facts: &Context) -> Result<Named, ReadStop> {
+    let outcome = evaluate(alloc, &typed, facts);
+    let_go(typed);
+    match outcome {
+        Ok(outcome) => Ok(named(outcome)),
+        Err(_) => Err(ReadStop::OutOfMemory),
+    }
 }
 
 fn outcome(alloc: Global, place: Place, text: &str, facts: &Context) -> Result<Named, ReadStop> {
-    let Some(typed) = typed(alloc, place, text)? else {
-        return Ok("no condition");
-    };
-    match evaluated(alloc, &typed, facts) {
-        Ok(name) => Ok(name),
-        Err(_) => Err(ReadStop::OutOfMemory),
+    let tree = read(alloc, text)?;
+    match check(tree, place) {
+        Ok(typed) => evaluated(alloc, typed, facts),
+        Err(_) => Ok("no condition"),
     }
 }
 

@@ -3,6 +3,7 @@ use cel_types::TypeKind::{
     BadTemplate, BadZone, NotBool, NotHere, NotLiteral, UnknownName, WrongKind,
 };
 use cel_types::{Place, TypeKind, check};
+use iam_text::let_go;
 use std::alloc::Global;
 use std::test::Fail;
 
@@ -464,8 +465,12 @@ static CONDITIONS: [(&str, Fault, Fault, Fault); 85] = [
 ];
 
 fn fault(alloc: Global, place: Place, text: &str) -> Result<Fault, ReadStop> {
-    match check(read(alloc, text)?, place) {
-        Ok(_) => Ok(None),
+    let tree = read(alloc, text)?;
+    match check(tree, place) {
+        Ok(typed) => {
+            let_go(typed);
+            Ok(None)
+        }
         Err(fault) => Ok(Some((fault.offset, fault.kind))),
     }
 }

@@ -1,5 +1,6 @@
 use cel_syntax::{Expr, Op, ReadStop, Span, read};
 use cel_tree::same;
+use iam_text::let_go;
 use std::alloc::Global;
 use std::test::Fail;
 
@@ -139,16 +140,27 @@ fn is_choice(tree: &Expr) -> bool {
     }
 }
 
+// Each tree is let go before anything can be refused.
+
 fn product_is_read(alloc: Global) -> Result<bool, ReadStop> {
-    Ok(is_product(&read(alloc, "(1 + -2) * (3)")?))
+    let tree = read(alloc, "(1 + -2) * (3)")?;
+    let is = is_product(&tree);
+    let_go(tree);
+    Ok(is)
 }
 
 fn field_is_read(alloc: Global) -> Result<bool, ReadStop> {
-    Ok(is_field(&read(alloc, "a.b(1, [true]).c")?))
+    let tree = read(alloc, "a.b(1, [true]).c")?;
+    let is = is_field(&tree);
+    let_go(tree);
+    Ok(is)
 }
 
 fn choice_is_read(alloc: Global) -> Result<bool, ReadStop> {
-    Ok(is_choice(&read(alloc, " f() ? -x : !'s' ")?))
+    let tree = read(alloc, " f() ? -x : !'s' ")?;
+    let is = is_choice(&tree);
+    let_go(tree);
+    Ok(is)
 }
 
 #[test]
@@ -159,11 +171,21 @@ fn trees_have_both_ends_of_spans(rt: HostRuntime) -> Result<(), Fail> {
     Ok(())
 }
 
+fn compared(tree: Expr, other: Expr) -> bool {
+    let is = same(&tree, &other);
+    let_go(tree);
+    let_go(other);
+    is
+}
+
 fn are_same(alloc: Global, text: &str, other: &str) -> Result<bool, ReadStop> {
     let tree = read(alloc, text)?;
     match read(alloc, other) {
-        Ok(found) => Ok(same(&tree, &found)),
-        Err(stop) => Err(stop),
+        Ok(other) => Ok(compared(tree, other)),
+        Err(stop) => {
+            let_go(tree);
+            Err(stop)
+        }
     }
 }
 

@@ -241,4 +241,4 @@ head_there sight (Expr-F.Two span o left right) f is fits = record { found = hea
 head_there sight (Expr-F.Pick span condition picked other) f is fits = record { found = head.pick; is = refl; same = same_some is }
 
 pub has_head : {sight : Sight} {e : Expr} {k : Kind} → HasKind sight e k → (h : Head) × (head_of (out-Expr e) ≡ Some h)
-has_head {sight} {e} (rule.node {f = f} is fits have from) = let h = head_there sight (out-Expr e) f is fits in (h.found, h.is)
+has_head {sight} {e} (rule.node {f = f} plain is fits have from) = let h = head_there sight (out-Expr e) f is fits in (h.found, h.is)

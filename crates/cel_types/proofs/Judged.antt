@@ -15,7 +15,7 @@ use Rattle.cel_types.specs.HasKind.{HasKind, HaveKinds, KindFrom, Fits, FirstFau
 use Rattle.cel_types.specs.Nodes.{form_kind, kind_or_fault, node_kind}
 use Rattle.cel_types.specs.Places.{stands_in}
 use Rattle.cel_types.specs.Rows.{kind_from}
-use Rattle.cel_types.proofs.OneKind.{same_some, same_kinds}
+use Rattle.cel_types.proofs.OneKind.{all_plain, same_some, same_kinds}
 use Rattle.cel_types.proofs.KindFrom.{computed, given}
 
 -- a fault at the first byte of a node
@@ -41,15 +41,15 @@ pick_same {a} {b} {c} {d} {a'} {b'} {c'} {d'} p q r s =
 -- a node with no kind, and its fault
 faulty : (sight : Sight) (e : Expr) (ks : List Kind) (t : TypeKind) → HaveKinds sight (children e) ks → fault_of sight e ≡ t
     → ((k : Kind) → ¬ HasKind sight e k) → FirstFault sight e (at e t)
-faulty sight e ks t have same none = subst (λ z. FirstFault sight e (at e z)) same (rule.here have none)
+faulty sight e ks t have same none = subst (λ z. FirstFault sight e (at e z)) same (rule.here (all_plain (out-Expr e)) have none)
 
 not_unknown : {sight : Sight} {e : Expr} {k : Kind} → HasKind sight e k → form_of (out-Expr e) ≡ None → ⊥
-not_unknown (rule.node form fits have from) none = let P : ⊥ = cc in P
+not_unknown (rule.node plain form fits have from) none = let P : ⊥ = cc in P
 
 -- a node of a form has a kind only where it fits and its parts have the kinds of a row
 row_of : {sight : Sight} {e : Expr} {k : Kind} → HasKind sight e k → (ks : List Kind) (f : Form) → HaveKinds sight (children e) ks
     → form_of (out-Expr e) ≡ Some f → Fits sight f (arguments_of (out-Expr e)) × KindFrom f ks k
-row_of {sight} {e} {k} (rule.node {f = g} form' fits have' from) ks f have form =
+row_of {sight} {e} {k} (rule.node {f = g} plain form' fits have' from) ks f have form =
     let same : g ≡ f = same_some (sym form' ∙ form) in
     let kinds = same_kinds have' ks have in (
       subst (λ z. Fits sight z (arguments_of (out-Expr e))) same fits,
@@ -66,7 +66,7 @@ fault_is sight e f a b c d form p q r s =
 last : (sight : Sight) (e : Expr) (ks : List Kind) (f : Form) (o : Option Kind) → HaveKinds sight (children e) ks
     → form_of (out-Expr e) ≡ Some f → Fits sight f (arguments_of (out-Expr e)) → fault_of sight e ≡ WrongKind
     → kind_from f ks ≡ o → Answers sight e (kind_or_fault o)
-last sight e ks f (Some k) have form fits fault is = rule.node form fits have (given f ks k is)
+last sight e ks f (Some k) have form fits fault is = rule.node (all_plain (out-Expr e)) form fits have (given f ks k is)
 last sight e ks f None have form fits fault is =
     faulty sight e ks WrongKind have fault
     (λ k d. let row = computed (row_of d ks f have form).1 in let P : ⊥ = cc (sym row ∙ is) in P)

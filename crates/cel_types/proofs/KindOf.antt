@@ -12,7 +12,7 @@ use Rattle.cel_types.specs.KindOf.{all_kinds, at_node, from_parts, kind_of, kind
 use Rattle.cel_types.specs.Nodes.{node_kind}
 use Rattle.cel_types.specs.declared.kind.Kind.{Kind}
 use Rattle.cel_types.specs.Sight.{Sight}
-use Rattle.cel_types.proofs.OneKind.{no_kind, one_first, one_kind}
+use Rattle.cel_types.proofs.OneKind.{all_plain, no_kind, one_first, one_kind}
 use Rattle.cel_types.proofs.Judged.{Answers, judged}
 use Rattle.cel_types.proofs.Smaller.{one_at_least, smaller}
 
@@ -45,7 +45,7 @@ node_so sight e ks have = by (node_kind sight (out-Expr e) ks) (judged sight e k
 
 parts_so : (sight : Sight) (e : Expr) (r : Result (List Kind) TypeFault) → AreSo sight (children e) r → IsSo sight e (from_parts sight e r)
 parts_so sight e (Ok ks) have = node_so sight e ks have
-parts_so sight e (Err fault) fails = FirstFault.inside fails
+parts_so sight e (Err fault) fails = FirstFault.inside (all_plain (out-Expr e)) fails
 
 within_so : (sight : Sight) (n : ℕ) (e : Expr) → size e ≤ n → IsSo sight e (kind_within n sight e)
 within_so sight zero e h = absurd (one_at_least e h)

@@ -339,7 +339,7 @@ branch_kinds {sight} {d} {a} {b} {ks} {k} have e = read (subst (λ z. HaveKinds 
 
 mutual
   pub kept : {c : Setting} {e : Expr} {o : Outcome} → Means c e o → (sight : Sight) (k : Kind) → HasKind sight e k → OutcomeIsOf o k
-  kept (rule.node h) sight k (kinded.node form fits have from) = kept_at h sight _ _ k form have from
+  kept (rule.node h) sight k (kinded.node plain form fits have from) = kept_at h sight _ _ k form have from
 
   kept_at : {c : Setting} {e : Expr-F Expr} {o : Outcome} → MeansAt c e o → (sight : Sight) (f : Form) (ks : List Kind) (k : Kind)
       → form_of e ≡ Some f → HaveKinds sight (parts e) ks → KindFrom f ks k → OutcomeIsOf o k

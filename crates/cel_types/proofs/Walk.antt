@@ -20,7 +20,7 @@ use Rattle.cel_types.specs.HasKind.{HasKind, HaveKinds, FirstFault, FirstFaultAm
 use Rattle.cel_types.specs.KindOf.{at_node}
 use Rattle.cel_types.specs.Nodes.{differing, fitting, form_kind, Keeps, node_kind}
 use Rattle.cel_types.proofs.KindOf.{IsSo, node_so}
-use Rattle.cel_types.proofs.OneKind.{same_some}
+use Rattle.cel_types.proofs.OneKind.{all_plain, same_some}
 use Rattle.cel_types.proofs.KindFrom.{list_by_two}
 
 -- a node that is x, of whose parts' kinds as much is given as its own kind depends on
@@ -33,7 +33,7 @@ node_by sight e x ks given r is have same result =
     subst (IsSo sight e) (sym (result ∙ ap (at_node e) enough)) (node_so sight e ks all)
 
 pub fault_by : (sight : Sight) (e : Expr) (x : Expr-F Expr) (fault : TypeFault) → out-Expr e ≡ x → FirstFaultAmong sight (parts x) fault → FirstFault sight e fault
-fault_by sight e x fault is among = rule.inside (subst (λ z. FirstFaultAmong sight (parts z) fault) (sym is) among)
+fault_by sight e x fault is among = rule.inside (all_plain (out-Expr e)) (subst (λ z. FirstFaultAmong sight (parts z) fault) (sym is) among)
 
 -- what is read of a part is said of the part
 pub has_kind : {sight : Sight} {k : Kind} (g a : Expr) → g ≡ a → HasKind sight g k → HasKind sight a k

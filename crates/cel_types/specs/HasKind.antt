@@ -42,6 +42,22 @@ parts (Expr-F.Pick span condition picked other) = condition ∷ picked ∷ other
 abbrev pub children : Expr → List Expr
 children e = parts (out-Expr e)
 
+-- a node each of whose parts is looked at in the sight of the node. A form with a scope of its own would be none, and have rules
+-- of its own
+abbrev pub is_plain : Expr-F Expr → Bool
+is_plain (Expr-F.Bool span value) = true
+is_plain (Expr-F.Int span number) = true
+is_plain (Expr-F.Str span text) = true
+is_plain (Expr-F.Name span name) = true
+is_plain (Expr-F.Select span base field) = true
+is_plain (Expr-F.Call span name arguments) = true
+is_plain (Expr-F.Method span base name arguments) = true
+is_plain (Expr-F.Many span items) = true
+is_plain (Expr-F.Not span operand) = true
+is_plain (Expr-F.Neg span operand) = true
+is_plain (Expr-F.Two span op left right) = true
+is_plain (Expr-F.Pick span condition picked other) = true
+
 abbrev pub is_arithmetic : Op → Bool
 is_arithmetic op.Add = true
 is_arithmetic op.Sub = true
@@ -117,7 +133,7 @@ pub record Fits (sight : Sight) (f : Form) (arguments : List Expr) : Type 0 wher
 mutual
   -- the tree has the kind in the place
   pub data HasKind (sight : Sight) : Expr → Kind → Type 0 where
-    node : {e : Expr} {f : Form} {ks : List Kind} {k : Kind} → form_of (out-Expr e) ≡ Some f
+    node : {e : Expr} {f : Form} {ks : List Kind} {k : Kind} → is_plain (out-Expr e) ≡ true → form_of (out-Expr e) ≡ Some f
         → Fits sight f (arguments_of (out-Expr e)) → HaveKinds sight (children e) ks → KindFrom f ks k → HasKind sight e k
 
   -- the trees have the kinds, one each
@@ -145,8 +161,8 @@ fault_of sight e = fault_in (form_of (out-Expr e)) sight (arguments_of (out-Expr
 mutual
   -- the fault of the first node that has no kind: parts before the whole, left before right
   pub data FirstFault (sight : Sight) : Expr → TypeFault → Type 0 where
-    inside : {e : Expr} {fault : TypeFault} → FirstFaultAmong sight (children e) fault → FirstFault sight e fault
-    here : {e : Expr} {ks : List Kind} → HaveKinds sight (children e) ks → ((k : Kind) → ¬ HasKind sight e k)
+    inside : {e : Expr} {fault : TypeFault} → is_plain (out-Expr e) ≡ true → FirstFaultAmong sight (children e) fault → FirstFault sight e fault
+    here : {e : Expr} {ks : List Kind} → is_plain (out-Expr e) ≡ true → HaveKinds sight (children e) ks → ((k : Kind) → ¬ HasKind sight e k)
         → FirstFault sight e (record { offset = (span_of e).from; kind = fault_of sight e })
 
   pub data FirstFaultAmong (sight : Sight) : List Expr → TypeFault → Type 0 where

@@ -109,10 +109,20 @@ disjunction x y =
 
 -- a form whose parts are all evaluated, from left to right, the first error being the outcome
 abbrev pub is_strict : Expr-F Expr → Bool
-is_strict (Expr-F.Two span op.And a b) = false
-is_strict (Expr-F.Two span op.Or a b) = false
+is_strict (Expr-F.Bool span value) = true
+is_strict (Expr-F.Int span number) = true
+is_strict (Expr-F.Str span text) = true
+is_strict (Expr-F.Name span name) = true
+is_strict (Expr-F.Select span base field) = true
+is_strict (Expr-F.Call span name arguments) = true
+is_strict (Expr-F.Method span base name arguments) = true
+is_strict (Expr-F.Many span items) = true
+is_strict (Expr-F.Not span operand) = true
+is_strict (Expr-F.Neg span operand) = true
+is_strict (Expr-F.Two span op.And left right) = false
+is_strict (Expr-F.Two span op.Or left right) = false
+is_strict (Expr-F.Two span o left right) = true
 is_strict (Expr-F.Pick span condition picked other) = false
-is_strict _ = true
 
 -- a strict node stops with its parts, or applies to their values
 pub data Concludes (setting : Setting) (h : Head) : Result (List Value) EvalFault → Outcome → Type 0 where

@@ -12,7 +12,7 @@ pub enum Value {
 }
 
 /// Why an expression has no value.
-#[derive(Clone, Copy, Debug, PartialEq, Eq)]
+#[derive(Clone, Copy)]
 pub enum EvalFault {
     /// An integer outside 64 bits.
     Overflow,
@@ -35,7 +35,7 @@ pub enum Outcome {
 }
 
 /// What a condition comes to in a context.
-#[derive(Clone, Copy, Debug, PartialEq, Eq)]
+#[derive(Clone, Copy)]
 pub enum Verdict {
     True,
     False,

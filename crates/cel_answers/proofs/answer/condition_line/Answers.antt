@@ -1,4 +1,4 @@
-use Rattle.std.proofs.Common.{string_bytes, refl, ap, ◌∙◌}
+use Rattle.std.proofs.Common.{string_bytes, refl, ap}
 use Rattle.cel_answers.specs.declared.task.Task.TheVariants.{Check}
 use Rattle.cel_answers.specs.Answers as answers
 use Rattle.cel_answers.specs.Answers.{Answer, tree_line, fault_line}
@@ -8,8 +8,8 @@ use Rattle.cel_answers.proofs.answer.condition_line.Goals as goal
 
 pub returns-in-Ok : goal.returns-in-Ok
 returns-in-Ok c = λ facts text h.
-    said c.tree_line.result string_bytes _ (tree_line c.args.tree) (Answer facts (Check c.args.place) text) c.tree_line.ensures
-    (ap tree_line (c.expr.ensures.value ∙ c.in-Ok.ensures.typed.0)) (answers.condition h (c.in-Ok.ensures.exact.0 refl))
+    said c.typed_line.result string_bytes _ (tree_line c.args.tree) (Answer facts (Check c.args.place) text) c.typed_line.ensures
+    (ap tree_line c.in-Ok.ensures.typed.0) (answers.condition h (c.in-Ok.ensures.exact.0 refl))
 
 pub returns-in-Err : goal.returns-in-Err
 returns-in-Err c = λ facts text h.

@@ -8,5 +8,5 @@ pub returns-in-Read : goal.returns-in-Read
 returns-in-Read c =
     let text = c.args.text.now in
     let line = tree_line c.in-Ok.tree in
-    said c.tree_line.result string_bytes _ line (Answer c.args.facts.now c.args.task text) c.tree_line.ensures refl
+    said c.read_line.result string_bytes _ line (Answer c.args.facts.now c.args.task text) c.read_line.ensures refl
     (subst (λ task. Answer c.args.facts.now task text line) (sym c.in-Read.is) (answers.tree c.in-Ok.ensures.answer))

@@ -1,4 +1,5 @@
 use Rattle.std.proofs.Common.{string_bytes, refl, ap, ◌∙◌, subst}
+use Rattle.std.proofs.lemmas.Result.{IfOk-weaker}
 use Rattle.cel_meaning.specs.Results.{at}
 use Rattle.cel_types.specs.Means.{Means}
 use Rattle.cel_answers.specs.declared.task.Task.TheVariants.{Value}
@@ -8,14 +9,15 @@ use Rattle.cel_answers.specs.Names.{type_name_of}
 use Rattle.cel_answers.proofs.Lines.{said, value_said}
 use Rattle.cel_answers.proofs.answer.value_line.Goals as goal
 
-pub returns-in_ok-from_str-in-Ok : goal.returns-in_ok-from_str-in-Ok
-returns-in_ok-from_str-in-Ok c = λ text h.
+pub returns-in_ok-outcome-in-Ok : goal.returns-in_ok-outcome-in-Ok
+returns-in_ok-outcome-in-Ok c = λ text h.
     let facts = c.args.facts.now in
     let outcome = c.in_ok-outcome-in-Ok.outcome in
     let means : Means (at facts) c.args.tree outcome =
     subst (λ e. Means (at facts) e outcome) c.in-Ok.ensures.typed.0 c.in_ok-outcome-in-Ok.ensures.meaning in
-    value_said facts text (string_bytes c.in_ok-from_str-in-Ok.field-0) c.args.tree outcome c.outcome_name.result.now
-    c.in_ok-from_str-in-Ok.ensures.ok h (c.in-Ok.ensures.exact.0 refl) means c.in_ok-outcome-in-Ok.ensures.truth c.outcome_name.ensures
+    IfOk-weaker c.outcome_line.result _ _
+    (λ line named. value_said facts text (string_bytes line) c.args.tree outcome (string_bytes line) refl h (c.in-Ok.ensures.exact.0 refl) means c.in_ok-outcome-in-Ok.ensures.truth named)
+    c.outcome_line.ensures
 
 pub returns-in-Err : goal.returns-in-Err
 returns-in-Err c = λ text h.

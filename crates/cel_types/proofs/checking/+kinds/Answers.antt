@@ -117,7 +117,7 @@ kind_of-returns-in-Some-4 t c =
     let other = c.in-Some-4.other in
     let h = keeps_some first other c.in-Some-4.is c.in_ok-kinds_among-in-Many.ensures in
     let have = subst (λ (z : List Expr). HaveKinds (sight_of c.args.place) z (first ∷ h.0)) c.as_slice-in-Many.ensures h.1 in
-    node_by _ _ _ (first ∷ h.0) (first ∷ other ∷ []) _ (ap out-Expr c.in-Many.is ∙ outs-Many _ _) have (list_by_other _ c.in-Many.field-0 c.in-Many.items first other h.0 h.2) c.node-in-Some-4.ensures
+    node_by _ _ _ (first ∷ h.0) (first ∷ other ∷ []) _ (ap out-Expr c.in-Many.is ∙ outs-Many _ _) have (list_by_other (sight_of c.args.place) c.in-Many.field-0 c.in-Many.items first other h.0 h.2) c.node-in-Some-4.ensures
 
 pub kind_of-returns-in_err-left-in-Two : goal.kind_of-returns-in_err-left-in-Two
 kind_of-returns-in_err-left-in-Two t c =
