@@ -3,7 +3,7 @@ ghost use Rattle.std.specs.Prelude.{◌≡◌, IfOk, IsTrue};
 ghost use Rattle.iam_model.specs.Catalogue.{is_permission};
 ghost use Rattle.iam_model.specs.Nodes.{exists};
 ghost use Rattle.iam_law.specs.Decide.{decide};
-ghost use Rattle.iam_answer.specs.Asking.{query_of as the_query, allows as allows_it};
+ghost use Rattle.iam_answer.specs.Asking as spec;
 
 use iam_judge::{Index, resource_facts_of};
 use iam_names::{Caller, NodeId, PermissionName, copy_caller, copy_permission};
@@ -18,7 +18,7 @@ fn query_of(
     moment: Moment,
     permission: &PermissionName,
 ) -> Result<Query, OutOfMemory>
-    ensures { IfOk result (λ query. query ≡ the_query node caller.now moment permission.now) }
+    ensures { IfOk result (λ query. query ≡ spec.query_of node caller.now moment permission.now) }
 {
     Ok(Query {
         caller: copy_caller(caller)?,
@@ -41,14 +41,14 @@ pub fn decision_of(
 ) -> Result<Decision, OutOfMemory>
     requires node { IsTrue (exists index.now node) }
     requires permission { IsTrue (is_permission permission.now) }
-    ensures { IfOk result (λ decision. decision ≡ decide index.now (the_query node caller.now moment permission.now)) }
+    ensures { IfOk result (λ decision. decision ≡ decide index.now (spec.query_of node caller.now moment permission.now)) }
 {
     let query = query_of(alloc, node, caller, moment, permission)?;
     index.decision(alloc, &query)
 }
 
 pub fn allows(decision: &Decision) -> bool
-    ensures { result ≡ allows_it decision.now }
+    ensures { result ≡ spec.allows decision.now }
 {
     match decision {
         Decision::Allowed { .. } => true,

@@ -1,7 +1,7 @@
 // The bytes of replies.
 ghost use Rattle.std.specs.Prelude.{◌≡◌, IfOk, None};
 ghost use Rattle.iam_json.specs.Refusals.{error_text, line_of};
-ghost use Rattle.iam_answer.specs.Replies.{answer_code, keeper_reply as keeper_bytes, no_memory_reply as the_fixed_reply, plain_reply as plain_bytes, served_reply as served_bytes};
+ghost use Rattle.iam_answer.specs.Replies as spec;
 ghost use Rattle.iam_wire.specs.Reply.{bytes_of};
 
 use iam_json::{Details, ErrorReply, answer_body, code_of, error_body, refusal_code};
@@ -35,7 +35,7 @@ fn refused_reply(
 #[tactic(auto, unfolding(crate::specs::Replies::plain_reply))]
 pub fn plain_reply(alloc: Global, error: &ErrorReply) -> Result<List<u8>, OutOfMemory>
     requires { error.now.number ≡ (line_of error.now.details).number }
-    ensures { IfOk result (λ bytes. bytes ≡ plain_bytes error.now.details) }
+    ensures { IfOk result (λ bytes. bytes ≡ spec.plain_reply error.now.details) }
 {
     refused_reply(alloc, error, None)
 }
@@ -43,7 +43,7 @@ pub fn plain_reply(alloc: Global, error: &ErrorReply) -> Result<List<u8>, OutOfM
 /// The reply to a write for which the keeper failed: it shows the moment alone.
 #[tactic(auto, unfolding(crate::specs::Replies::keeper_reply))]
 pub fn keeper_reply(alloc: Global, moment: Moment) -> Result<List<u8>, OutOfMemory>
-    ensures { IfOk result (λ bytes. bytes ≡ keeper_bytes moment) }
+    ensures { IfOk result (λ bytes. bytes ≡ spec.keeper_reply moment) }
 {
     let error = ErrorReply::of(Details::KeeperFault);
     let reply = refused_reply(alloc, &error, Some(moment));
@@ -52,7 +52,7 @@ pub fn keeper_reply(alloc: Global, moment: Moment) -> Result<List<u8>, OutOfMemo
 }
 
 fn answer_code(answer: &Answer) -> u16
-    ensures { result ≡ answer_code answer.now }
+    ensures { result ≡ spec.answer_code answer.now }
 {
     match answer {
         Answer::Refused(refusal) => refusal_code(refusal),
@@ -78,7 +78,7 @@ pub fn served_reply(
     moment: Moment,
     answer: &Answer,
 ) -> Result<List<u8>, OutOfMemory>
-    ensures { IfOk result (λ bytes. bytes ≡ served_bytes number moment answer.now) }
+    ensures { IfOk result (λ bytes. bytes ≡ spec.served_reply number moment answer.now) }
 {
     let reply = Reply {
         code: answer_code(answer),
@@ -92,7 +92,7 @@ pub fn served_reply(
 /// The reply that takes no memory: memory was refused, and nothing was stored.
 #[tactic(auto, using(crate::proofs::Fixed::fixed_reply))]
 pub fn no_memory_reply() -> &'static [u8]
-    ensures { result.now ≡ the_fixed_reply }
+    ensures { result.now ≡ spec.no_memory_reply }
 {
     NO_MEMORY.as_bytes()
 }

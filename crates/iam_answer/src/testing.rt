@@ -2,10 +2,10 @@
 ghost use Rattle.std.specs.Prelude.{◌≡◌, [], ◌∷◌, ◌++◌, not, IfOk, OnOk, IsTrue, filter};
 ghost use Rattle.std.specs.List.{find, list_all};
 ghost use Rattle.std.specs.Option.{option_copied};
-ghost use Rattle.iam_model.specs.Catalogue.{is_permission as has_permission};
+ghost use Rattle.iam_model.specs.Catalogue as catalogue_spec;
 ghost use Rattle.iam_model.specs.Nodes.{exists};
 ghost use Rattle.iam_answer.specs.Answer.{test_answer};
-ghost use Rattle.iam_answer.specs.Asking.{allowed_of, is_allowed as allowed_in};
+ghost use Rattle.iam_answer.specs.Asking as asking_spec;
 
 use crate::queries::{allows, decision_of};
 use iam_judge::Index;
@@ -23,8 +23,8 @@ fn is_allowed(
     permission: &PermissionName,
 ) -> Result<bool, OutOfMemory>
     requires node { IsTrue (exists index.now node) }
-    requires permission { IsTrue (has_permission permission.now) }
-    ensures { IfOk result (λ allowed. allowed ≡ allowed_in index.now node caller.now moment permission.now) }
+    requires permission { IsTrue (catalogue_spec.is_permission permission.now) }
+    ensures { IfOk result (λ allowed. allowed ≡ asking_spec.is_allowed index.now node caller.now moment permission.now) }
 {
     let decision = decision_of(alloc, index, node, caller, moment, permission)?;
     Ok(allows(&decision))
@@ -41,8 +41,8 @@ fn push_allowed(
     allowed: &mut List<PermissionName>,
 ) -> Result<(), OutOfMemory>
     requires node { IsTrue (exists index.now node) }
-    requires permission { IsTrue (has_permission permission.now) }
-    ensures { OnOk result (allowed.new ≡ allowed.old ++ filter (allowed_in index.now node caller.now moment) (permission.now ∷ [])) }
+    requires permission { IsTrue (catalogue_spec.is_permission permission.now) }
+    ensures { OnOk result (allowed.new ≡ allowed.old ++ filter (asking_spec.is_allowed index.now node caller.now moment) (permission.now ∷ [])) }
 {
     if is_allowed(alloc, index, node, caller, moment, permission)? {
         allowed.push(copy_permission(permission)?)?;
@@ -60,8 +60,8 @@ fn allowed_of(
     permissions: &[PermissionName],
 ) -> Result<List<PermissionName>, OutOfMemory>
     requires node { IsTrue (exists index.now node) }
-    requires permissions { IsTrue (list_all has_permission permissions.now) }
-    ensures { IfOk result (λ allowed. allowed ≡ allowed_of index.now node caller.now moment permissions.now) }
+    requires permissions { IsTrue (list_all catalogue_spec.is_permission permissions.now) }
+    ensures { IfOk result (λ allowed. allowed ≡ asking_spec.allowed_of index.now node caller.now moment permissions.now) }
 {
     let mut allowed = List::new(alloc);
     for permission in permissions {
@@ -74,7 +74,7 @@ fn first_unknown<'a>(
     catalogue: &Catalogue,
     permissions: &'a [PermissionName],
 ) -> Option<&'a PermissionName>
-    ensures { option_copied result ≡ find (λ permission. not (has_permission permission)) permissions.now }
+    ensures { option_copied result ≡ find (λ permission. not (catalogue_spec.is_permission permission)) permissions.now }
 {
     permissions
         .iter()

@@ -1,6 +1,6 @@
 // The commit of changes.
-ghost use Rattle.std.specs.Prelude.{◌≡◌, All, List as Items, IfSome, OnOk, OnErr};
-ghost use Rattle.iam_types.specs.declared.fact.Fact.{Fact as AFact};
+ghost use Rattle.std.specs.Prelude.{◌≡◌, All, List, IfSome, OnOk, OnErr};
+ghost use Rattle.iam_types.specs.declared.fact.Fact.{Fact};
 ghost use Rattle.iam_model.specs.Facts.{with_changes};
 ghost use Rattle.iam_model.specs.Formed.{IsChange};
 ghost use Rattle.iam_outer.specs.Rows.{KeeperCause};
@@ -18,7 +18,7 @@ pub fn keep<P: Keeper>(
     changes: &[FactChange],
 ) -> Result<(), KeeperStop>
     requires { All IsChange changes.now }
-    ensures ok { (facts : Items AFact) → OnOk result (IfSome (P.rows keeper.old) (AreRows facts) → IfSome (P.rows keeper.new) (AreRows (with_changes facts changes.now))) }
+    ensures ok { (facts : List Fact) → OnOk result (IfSome (P.rows keeper.old) (AreRows facts) → IfSome (P.rows keeper.new) (AreRows (with_changes facts changes.now))) }
     ensures err { OnErr result (P.rows keeper.new ≡ P.rows keeper.old) }
     ensures cause { KeeperCause (P.keeper_faults keeper.old) (P.keeper_faults keeper.new) result }
     ensures same { P.same keeper.old keeper.new }

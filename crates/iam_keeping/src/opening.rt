@@ -1,17 +1,17 @@
 // The index over the tables of a keeper's rows.
-ghost use Rattle.std.specs.Prelude.{◌≡◌, ◌≤◌, [], map, All, IfErr, IfOk, IfSome, IsErrOf, OnErr, OnOk};
-ghost use Rattle.std.specs.declared.option.Option.{Option as Maybe};
+ghost use Rattle.std.specs.Prelude.{◌≡◌, ◌≤◌, [], map, All, IfErr, IfOk, IfSome, IsErrOf, OnErr, OnOk, Some};
+ghost use Rattle.std.specs.declared.option.Option.{Option};
 ghost use Rattle.iam_text.specs.Put.{IsInOrder};
-ghost use Rattle.iam_types.specs.declared.tables.Opening.{Opening as AnOpening};
+ghost use Rattle.iam_types.specs.declared.tables.Opening.{Opening};
 ghost use Rattle.iam_model.specs.Consistent.{Consistent};
-ghost use Rattle.iam_model.specs.Facts.{facts_of as the_facts};
+ghost use Rattle.iam_model.specs.Facts as fact_spec;
 ghost use Rattle.iam_model.specs.Formed.{IsFact};
-ghost use Rattle.iam_model.specs.Opening.{IsOpening, opening_tables as the_opening};
+ghost use Rattle.iam_model.specs.Opening as opening_spec;
 ghost use Rattle.iam_law.specs.Good.{Good};
 ghost use Rattle.iam_outer.specs.Causes.{Rose};
 ghost use Rattle.iam_outer.specs.Rows.{row_order, Written};
 ghost use Rattle.iam_types.specs.declared.fact.FactChange.{FactChange};
-ghost use Rattle.iam_keeping.specs.declared.stop.LoadFault.{LoadFault as AFault};
+ghost use Rattle.iam_keeping.specs.declared.stop.LoadFault.{LoadFault};
 ghost use Rattle.iam_keeping.specs.Opened.{IsOpenedFrom, IsLeft, IsLoadFault};
 ghost use Rattle.iam_rows.specs.Kept.{AreFactsOf, AreRows, AreWrites, KeepsTables};
 
@@ -26,7 +26,7 @@ use iam_rows::{
 use iam_tables::{
     Catalogue, Fact, Opening, Tables, TablesStop, facts_of, from_facts, opening_tables,
 };
-use iam_text::{List, OutOfMemory};
+use iam_text::{List, OutOfMemory, let_go};
 use std::alloc::Global;
 
 // The index over consistent tables.
@@ -47,6 +47,41 @@ fn index_of(
     }
 }
 
+// The writes that keep tables.
+fn writes_of_tables(alloc: Global, tables: &Tables) -> Result<List<RowWrite>, OutOfMemory>
+    requires { Consistent tables.now }
+    ensures { IfOk result (AreWrites (map (λ fact. FactChange.Put fact) (fact_spec.facts_of tables.now))) }
+{
+    let facts = facts_of(alloc, tables)?;
+    puts_of(alloc, facts.as_slice())
+}
+
+// The index over consistent tables, and the writes that keep them.
+fn index_and_writes(
+    alloc: Global,
+    tables: Tables,
+    catalogue: Catalogue,
+    zones: Zones,
+) -> Result<(Index, List<RowWrite>), OpenStop>
+    requires { Consistent tables }
+    ensures index { IfOk result (λ made. made.0 ≡ tables) }
+    ensures writes { IfOk result (λ made. AreWrites (map (λ fact. FactChange.Put fact) (fact_spec.facts_of tables)) made.1) }
+    ensures err { IfErr result (λ stop. stop ≡ OpenStop.OutOfMemory) }
+{
+    match writes_of_tables(alloc, &tables) {
+        Ok(writes) => {
+            let index = index_of(alloc, tables, catalogue, zones)?;
+            Ok((index, writes))
+        }
+        Err(_) => {
+            let_go(tables);
+            let_go(catalogue);
+            let_go(zones);
+            Err(OpenStop::OutOfMemory)
+        }
+    }
+}
+
 // The index that an organisation starts from, and the writes that keep its tables.
 fn first_index(
     alloc: Global,
@@ -54,23 +89,26 @@ fn first_index(
     catalogue: Catalogue,
     zones: Zones,
 ) -> Result<(Index, List<RowWrite>), OpenStop>
-    requires { IsOpening opening.now }
-    ensures index { IfOk result (λ made. made.0 ≡ the_opening opening.now) }
-    ensures writes { IfOk result (λ made. AreWrites (map (λ fact. FactChange.Put fact) (the_facts (the_opening opening.now))) made.1) }
+    requires { opening_spec.IsOpening opening.now }
+    ensures index { IfOk result (λ made. made.0 ≡ opening_spec.opening_tables opening.now) }
+    ensures writes { IfOk result (λ made. AreWrites (map (λ fact. FactChange.Put fact) (fact_spec.facts_of (opening_spec.opening_tables opening.now))) made.1) }
     ensures err { IfErr result (λ stop. stop ≡ OpenStop.OutOfMemory) }
 {
     openings_are_good();
-    let tables = opening_tables(alloc, opening)?;
-    let facts = facts_of(alloc, &tables)?;
-    let writes = puts_of(alloc, facts.as_slice())?;
-    let index = index_of(alloc, tables, catalogue, zones)?;
-    Ok((index, writes))
+    match opening_tables(alloc, opening) {
+        Ok(tables) => index_and_writes(alloc, tables, catalogue, zones),
+        Err(_) => {
+            let_go(catalogue);
+            let_go(zones);
+            Err(OpenStop::OutOfMemory)
+        }
+    }
 }
 
 fn commit<P: Keeper>(keeper: &mut P, writes: &[RowWrite]) -> Result<(), OpenStop>
     ensures ok { OnOk result (Written (P.rows keeper.old) (P.rows keeper.new) writes.now) }
     ensures err { OnErr result (P.rows keeper.new ≡ P.rows keeper.old) }
-    ensures fault { (fault : AFault) → IsErrOf result (OpenStop.Rows fault) → ⊥ }
+    ensures fault { (fault : LoadFault) → IsErrOf result (OpenStop.Rows fault) → ⊥ }
     ensures later { P.keeper_faults keeper.old ≤ P.keeper_faults keeper.new }
     ensures cause { IsErrOf result OpenStop.Keeper → Rose (P.keeper_faults keeper.old) (P.keeper_faults keeper.new) }
     ensures same { P.same keeper.old keeper.new }
@@ -88,14 +126,14 @@ fn begin<P: Keeper>(
     catalogue: Catalogue,
     zones: Zones,
 ) -> Result<Index, OpenStop>
-    requires formed { IsOpening opening.now }
+    requires formed { opening_spec.IsOpening opening.now }
     requires empty { IfSome (P.rows keeper.old) (λ rows. rows ≡ []) }
     ensures good { IfOk result Good }
-    ensures opened { IfOk result (λ index. index ≡ the_opening opening.now) }
+    ensures opened { IfOk result (λ index. index ≡ opening_spec.opening_tables opening.now) }
     ensures kept { IfOk result (KeepsTables (P.rows keeper.new)) }
-    ensures left { OnOk result (IsLeft (Maybe.Some opening.now) (P.rows keeper.old) (P.rows keeper.new)) }
+    ensures left { OnOk result (IsLeft (Some opening.now) (P.rows keeper.old) (P.rows keeper.new)) }
     ensures err { OnErr result (P.rows keeper.new ≡ P.rows keeper.old) }
-    ensures fault { (fault : AFault) → IsErrOf result (OpenStop.Rows fault) → ⊥ }
+    ensures fault { (fault : LoadFault) → IsErrOf result (OpenStop.Rows fault) → ⊥ }
     ensures later { P.keeper_faults keeper.old ≤ P.keeper_faults keeper.new }
     ensures cause { IsErrOf result OpenStop.Keeper → Rose (P.keeper_faults keeper.old) (P.keeper_faults keeper.new) }
     ensures same { P.same keeper.old keeper.new }
@@ -106,7 +144,10 @@ fn begin<P: Keeper>(
     let (index, writes) = first_index(alloc, opening, catalogue, zones)?;
     match commit(keeper, writes.as_slice()) {
         Ok(()) => Ok(index),
-        Err(stop) => Err(stop),
+        Err(stop) => {
+            let_go(index);
+            Err(stop)
+        }
     }
 }
 
@@ -117,21 +158,29 @@ fn begin_with<P: Keeper>(
     catalogue: Catalogue,
     zones: Zones,
 ) -> Result<Index, OpenStop>
-    requires formed { IfSome opening IsOpening }
+    requires formed { IfSome opening opening_spec.IsOpening }
     requires empty { IfSome (P.rows keeper.old) (λ rows. rows ≡ []) }
     ensures good { IfOk result Good }
     ensures opened { IfOk result (IsOpenedFrom opening []) }
     ensures kept { IfOk result (KeepsTables (P.rows keeper.new)) }
     ensures left { OnOk result (IsLeft opening (P.rows keeper.old) (P.rows keeper.new)) }
     ensures err { OnErr result (P.rows keeper.new ≡ P.rows keeper.old) }
-    ensures fault { (fault : AFault) → IsErrOf result (OpenStop.Rows fault) → IsLoadFault opening [] fault }
+    ensures fault { (fault : LoadFault) → IsErrOf result (OpenStop.Rows fault) → IsLoadFault opening [] fault }
     ensures later { P.keeper_faults keeper.old ≤ P.keeper_faults keeper.new }
     ensures cause { IsErrOf result OpenStop.Keeper → Rose (P.keeper_faults keeper.old) (P.keeper_faults keeper.new) }
     ensures same { P.same keeper.old keeper.new }
 {
     match opening {
-        Some(opening) => begin(alloc, &opening, keeper, catalogue, zones),
-        None => Err(OpenStop::Rows(LoadFault::Empty)),
+        Some(opening) => {
+            let begun = begin(alloc, &opening, keeper, catalogue, zones);
+            let_go(opening);
+            begun
+        }
+        None => {
+            let_go(catalogue);
+            let_go(zones);
+            Err(OpenStop::Rows(LoadFault::Empty))
+        }
     }
 }
 
@@ -139,8 +188,8 @@ fn tables_of_facts(alloc: Global, rows: &[Row], facts: List<Fact>) -> Result<Tab
     requires formed { All IsFact facts }
     requires read { AreFactsOf rows.now facts }
     ensures consistent { IfOk result Consistent }
-    ensures opened { IfOk result (λ tables. IsInOrder row_order rows.now → AreRows (the_facts tables) rows.now) }
-    ensures fault { (opening : Maybe AnOpening) (fault : AFault) → IsErrOf result (OpenStop.Rows fault) → IsLoadFault opening rows.now fault }
+    ensures opened { IfOk result (λ tables. IsInOrder row_order rows.now → AreRows (fact_spec.facts_of tables) rows.now) }
+    ensures fault { (opening : Option Opening) (fault : LoadFault) → IsErrOf result (OpenStop.Rows fault) → IsLoadFault opening rows.now fault }
     ensures keeper { IsErrOf result OpenStop.Keeper → ⊥ }
 {
     facts_stand_as_rows();
@@ -158,8 +207,8 @@ fn tables_of_facts(alloc: Global, rows: &[Row], facts: List<Fact>) -> Result<Tab
 
 fn tables_of_rows(alloc: Global, rows: &[Row]) -> Result<Tables, OpenStop>
     ensures consistent { IfOk result Consistent }
-    ensures opened { IfOk result (λ tables. IsInOrder row_order rows.now → AreRows (the_facts tables) rows.now) }
-    ensures fault { (opening : Maybe AnOpening) (fault : AFault) → IsErrOf result (OpenStop.Rows fault) → IsLoadFault opening rows.now fault }
+    ensures opened { IfOk result (λ tables. IsInOrder row_order rows.now → AreRows (fact_spec.facts_of tables) rows.now) }
+    ensures fault { (opening : Option Opening) (fault : LoadFault) → IsErrOf result (OpenStop.Rows fault) → IsLoadFault opening rows.now fault }
     ensures keeper { IsErrOf result OpenStop.Keeper → ⊥ }
 {
     match facts_of_rows(alloc, rows) {
@@ -177,12 +226,41 @@ fn index_of_rows(
     zones: Zones,
 ) -> Result<Index, OpenStop>
     ensures consistent { IfOk result Consistent }
-    ensures opened { IfOk result (λ index. IsInOrder row_order rows.now → AreRows (the_facts index) rows.now) }
-    ensures fault { (opening : Maybe AnOpening) (fault : AFault) → IsErrOf result (OpenStop.Rows fault) → IsLoadFault opening rows.now fault }
+    ensures opened { IfOk result (λ index. IsInOrder row_order rows.now → AreRows (fact_spec.facts_of index) rows.now) }
+    ensures fault { (opening : Option Opening) (fault : LoadFault) → IsErrOf result (OpenStop.Rows fault) → IsLoadFault opening rows.now fault }
     ensures keeper { IsErrOf result OpenStop.Keeper → ⊥ }
 {
     let tables = tables_of_rows(alloc, rows)?;
     index_of(alloc, tables, catalogue, zones)
+}
+
+// Opens the index over rows that were loaded.
+fn open_rows<P: Keeper>(
+    alloc: Global,
+    opening: Option<Opening>,
+    keeper: &mut P,
+    rows: &[Row],
+    catalogue: Catalogue,
+    zones: Zones,
+) -> Result<Index, OpenStop>
+    requires formed { IfSome opening opening_spec.IsOpening }
+    requires loaded { IfSome (P.rows keeper.old) (λ kept. rows.now ≡ kept) }
+    ensures good { IfOk result Good }
+    ensures opened { IfOk result (λ index. IfSome (P.rows keeper.old) (λ rows. IsOpenedFrom opening rows index)) }
+    ensures kept { IfOk result (KeepsTables (P.rows keeper.new)) }
+    ensures left { OnOk result (IsLeft opening (P.rows keeper.old) (P.rows keeper.new)) }
+    ensures err { OnErr result (P.rows keeper.new ≡ P.rows keeper.old) }
+    ensures fault { (fault : LoadFault) → IsErrOf result (OpenStop.Rows fault) → IfSome (P.rows keeper.old) (λ rows. IsLoadFault opening rows fault) }
+    ensures later { P.keeper_faults keeper.old ≤ P.keeper_faults keeper.new }
+    ensures cause { IsErrOf result OpenStop.Keeper → Rose (P.keeper_faults keeper.old) (P.keeper_faults keeper.new) }
+    ensures same { P.same keeper.old keeper.new }
+{
+    conditions_stand();
+    if rows.is_empty() {
+        return begin_with(alloc, opening, keeper, catalogue, zones);
+    }
+    let_go(opening);
+    index_of_rows(alloc, rows, catalogue, zones)
 }
 
 /// Opens the index over the tables of the keeper's rows. Where there are none, the opening's tables are kept and opened;
@@ -194,21 +272,24 @@ pub fn open<P: Keeper>(
     catalogue: Catalogue,
     zones: Zones,
 ) -> Result<Index, OpenStop>
-    requires { IfSome opening IsOpening }
+    requires { IfSome opening opening_spec.IsOpening }
     ensures good { IfOk result Good }
     ensures opened { IfOk result (λ index. IfSome (P.rows keeper.old) (λ rows. IsOpenedFrom opening rows index)) }
     ensures kept { IfOk result (KeepsTables (P.rows keeper.new)) }
     ensures left { OnOk result (IsLeft opening (P.rows keeper.old) (P.rows keeper.new)) }
     ensures err { OnErr result (P.rows keeper.new ≡ P.rows keeper.old) }
-    ensures fault { (fault : AFault) → IsErrOf result (OpenStop.Rows fault) → IfSome (P.rows keeper.old) (λ rows. IsLoadFault opening rows fault) }
+    ensures fault { (fault : LoadFault) → IsErrOf result (OpenStop.Rows fault) → IfSome (P.rows keeper.old) (λ rows. IsLoadFault opening rows fault) }
     ensures later { P.keeper_faults keeper.old ≤ P.keeper_faults keeper.new }
     ensures cause { IsErrOf result OpenStop.Keeper → Rose (P.keeper_faults keeper.old) (P.keeper_faults keeper.new) }
     ensures same { P.same keeper.old keeper.new }
 {
-    conditions_stand();
-    let rows = keeper.load()?;
-    if rows.is_empty() {
-        return begin_with(alloc, opening, keeper, catalogue, zones);
+    match keeper.load() {
+        Ok(rows) => open_rows(alloc, opening, keeper, rows.as_slice(), catalogue, zones),
+        Err(stop) => {
+            let_go(opening);
+            let_go(catalogue);
+            let_go(zones);
+            Err(OpenStop::from(stop))
+        }
     }
-    index_of_rows(alloc, rows.as_slice(), catalogue, zones)
 }

@@ -21,9 +21,9 @@ pub enum OpenStop {
 
 impl From<OutOfMemory> for OpenStop {
     ghost use Rattle.std.specs.Prelude.{◌≡◌};
-    ghost use Rattle.iam_keeping.specs.declared.stop.OpenStop.TheVariants.{OutOfMemory as NoMemory};
+    ghost use Rattle.iam_keeping.specs.declared.stop.OpenStop.TheVariants as variant;
 
-    ghost from_gives = { λ _ stop. stop ≡ NoMemory };
+    ghost from_gives = { λ _ stop. stop ≡ variant.OutOfMemory };
 
     fn from(_: OutOfMemory) -> OpenStop {
         OpenStop::OutOfMemory
