@@ -1,16 +1,18 @@
 -- What stands at the front of bytes: one of three, always, and what more bytes leave of it.
-use Rattle.std.proofs.Common.{◌≡◌, ℕ, ◌<◌, ◌≤◌, ◌⊎◌, inl, inr, List, [], ◌++◌, length, take, drop, refl, sym, ap, ◌∙◌, subst, arith, append_assoc, length-append}
-use Rattle.std.proofs.lemmas.Bool.Decides.{leb_tells}
+use Rattle.std.proofs.Common.{◌≡◌, ℕ, ◌+◌, ◌<◌, ◌≤◌, ◌⊎◌, inl, inr, Bool, true, false, not, ◌&&◌, codes, Option, Some, None, List, [], ◌++◌, length, take, drop, refl, sym, ap, ◌∙◌, subst, arith, append_assoc, length-append, nat_lt, if◌then◌else◌}
+use Rattle.std.proofs.lemmas.Bool.Decides.{leb_tells, Decides-ltb}
 use Rattle.std.proofs.lemmas.List.{take-append-drop, length-take}
+use Rattle.std.specs.Bool.{◌==◌}
+use Rattle.std.specs.List.{list_all}
 use Rattle.httparse.specs.Grammar.{RequestHead, print_request, ReadsRequest, HasNoRequest, MayBecomeRequest}
-use Rattle.iam_wire.specs.Plain.{max_head}
-use Rattle.iam_wire.specs.Front.{judged, HasHead, message_of, IsMessage, IsOpen, IsPrefix, IsHopeless, IsTooLong, HasFault}
+use Rattle.iam_wire.specs.Fields.{fields_of, values_named, appears}
+use Rattle.iam_wire.specs.Front.{max_body, max_fields, max_head, is_identity, declared_length, judged, judged_length, HasHead, message_of, IsMessage, IsOpen, IsPrefix, IsHopeless, IsTooLong, HasFault}
 use Rattle.iam_wire.specs.declared.fault.FrameFault.{FrameFault}
-use Rattle.iam_wire.specs.declared.fault.FrameFault.TheVariants.{BadHead}
+use Rattle.iam_wire.specs.declared.fault.FrameFault.TheVariants.{BadHead, TooLarge, NeedLength}
 use Rattle.iam_wire.specs.declared.fault.Judgement.{Judgement}
 use Rattle.iam_wire.specs.declared.fault.Judgement.TheVariants.{Sized, Faulty}
 use Rattle.iam_wire.specs.declared.message.Message.{Message}
-use Rattle.iam_wire.proofs.Plains.{same_split, some_head}
+use Rattle.iam_wire.proofs.Bytes.{same_split, some_head}
 use Rattle.iam_wire.proofs.Heads.{may_from_later, may_from_head, never_now, one_head, has_more, has_less}
 
 -- ---- one of the three
@@ -149,3 +151,38 @@ fault_more bytes more fault (inr (is, inr x)) = inr (is, inr (too_long_more byte
 pub takes_some : (bytes : List ℕ) (message : Message) (rest : List ℕ) → IsMessage bytes message rest → length rest < length bytes
 takes_some bytes message rest x =
     omega (arith, some_head x.head, ap length x.has.reads.1, length-append (print_request x.head) (x.body ++ rest), length-append x.body rest)
+
+-- ---- how long a prefix is
+
+kept_within : (over coded : Bool) (n size : ℕ) → nat_lt max_body n ≡ over → (if over then Faulty (TooLarge n) else (if coded then Faulty NeedLength else Sized n)) ≡ Sized size → size ≤ max_body
+kept_within true coded n size test is = absurd (cc is)
+kept_within false true n size test is = absurd (cc is)
+kept_within false false n size test is =
+    let same : n ≡ size = cc is in
+    elim (leb_tells n max_body) [
+      | inl p ↦ omega (arith, same, p.1)
+      | inr p ↦ let both = sym test ∙ (Decides-ltb max_body n).1 p.1 in absurd (cc both)
+    ]
+
+length_within : (coded : Bool) (n : Option ℕ) (size : ℕ) → judged_length coded n ≡ Sized size → size ≤ max_body
+length_within coded None size is = absurd (cc is)
+length_within coded (Some n) size is = kept_within (nat_lt max_body n) coded n size refl is
+
+-- where a head isn't refused for one cause, the next decides
+behind : (b : Bool) (said : Judgement) (size : ℕ) → (if b then Faulty BadHead else said) ≡ Sized size → said ≡ Sized size
+behind true said size is = absurd (cc is)
+behind false said size is = is
+
+size_within : (head : RequestHead) (size : ℕ) → judged head ≡ Sized size → size ≤ max_body
+unfolding judged
+size_within head size is =
+    let fields = fields_of head in
+    length_within (not (appears 0 (codes "transfer-encoding") fields)) (declared_length (values_named (codes "content-length") fields)) size
+    (behind (not (list_all is_identity (values_named (codes "content-encoding") fields))) _ size
+    (behind (head.minor == 1 && not (appears 1 (codes "host") fields)) _ size
+    (behind (nat_lt max_fields (length fields)) _ size is)))
+
+pub prefix_short : (bytes : List ℕ) → IsPrefix bytes → length bytes < max_head + max_body
+prefix_short bytes (inl still) = omega (arith, still.short)
+prefix_short bytes (inr lacks) =
+    omega (arith, lacks.has.small, lacks.short, size_within lacks.head lacks.size lacks.says, ap length lacks.has.reads.1, length-append (print_request lacks.head) lacks.rest)

@@ -9,7 +9,7 @@ use Rattle.httparse.specs.Grammar.{RequestHead, print_request, ReadsRequest, Has
 use Rattle.httparse.proofs.GrammarLemmas.{request_unique, ReadsRequest-append, print_request-append}
 use Rattle.httparse.proofs.OpenLemmas.{letter_is_token}
 use Rattle.iam_wire.specs.Front.{HasHead, IsPrefix}
-use Rattle.iam_wire.proofs.Plains.{some_head}
+use Rattle.iam_wire.proofs.Bytes.{some_head}
 
 -- ---- two ways to split a list
 

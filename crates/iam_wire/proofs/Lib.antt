@@ -1,7 +1,6 @@
 pub mod Named
 pub mod Digits
-pub mod Plains
-pub mod Lists
+pub mod Bytes
 pub mod Tested
 pub mod Heads
 pub mod Fronts

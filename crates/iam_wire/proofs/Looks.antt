@@ -7,10 +7,8 @@ use Rattle.httparse.specs.Spans.{IsRequestOf}
 use Rattle.httparse.specs.declared.spans.HeaderSpan.{HeaderSpan}
 use Rattle.httparse.specs.declared.spans.RequestSpans.{RequestSpans}
 use Rattle.iam_wire.specs.Fields.{fields_of, values_named}
-use Rattle.iam_wire.specs.Found.{IsNamed}
-use Rattle.iam_wire.specs.Plain.{max_head}
-use Rattle.iam_wire.specs.Front.{judged, judged_fields, is_last, HasHead, IsPrefix, IsTooLong, HasFault}
-use Rattle.iam_wire.specs.Look.{IsCovered, IsWhole, HasWhole}
+use Rattle.iam_wire.specs.Front.{max_head, judged, judged_fields, is_last, HasHead, IsPrefix, IsTooLong, HasFault}
+use Rattle.iam_wire.specs.Look.{IsCovered, IsNamed, IsWhole, HasWhole}
 use Rattle.iam_wire.specs.declared.fault.FrameFault.{FrameFault}
 use Rattle.iam_wire.specs.declared.fault.FrameFault.TheVariants.{BadHead}
 use Rattle.iam_wire.specs.declared.fault.Judgement.TheVariants.{Sized, Faulty}

@@ -3,7 +3,7 @@ use Rattle.std.proofs.Common.{◌≡◌, ℕ, suc, zero, ◌<◌, List, [], ◌�
 use Rattle.std.specs.Bool.{MatchBool}
 use Rattle.std.proofs.lemmas.Bool.{cases_Bool}
 use Rattle.iam_wire.specs.Front.{IsMessage, IsPrefix, HasFault}
-use Rattle.iam_wire.specs.Stream.{End, at_end, at_last, at_rest, at_fault, EndsAs, Reads, Takes, Move, fed, took, fed_by, taken_by, Leads}
+use Rattle.iam_wire.specs.Stream.{End, at_end, at_last, at_rest, at_fault, EndsAs, Reads, Takes, BeginsWith}
 use Rattle.iam_wire.specs.declared.fault.FrameFault.{FrameFault}
 use Rattle.iam_wire.specs.declared.message.Message.{Message}
 use Rattle.iam_wire.proofs.Heads.{nothing_is_prefix}
@@ -118,25 +118,56 @@ takes_first bytes (m ∷ messages) rest (n ∷ all) end x y =
 
 -- ---- pieces
 
-leads_takes : (held : List ℕ) (moves : List Move) (left : List ℕ) → Leads held moves left → Takes (held ++ fed_by moves) (taken_by moves) left
-leads_takes held [] left x = append-nil held ∙ x
-leads_takes held (fed piece ∷ moves) left x = subst (λ s. Takes s (taken_by moves) left) (append_assoc held piece (fed_by moves)) (leads_takes (held ++ piece) moves left x)
-leads_takes held (took message ∷ moves) left x = (x.0 ++ fed_by moves, message_more held (fed_by moves) message x.0 x.1, x.2, leads_takes x.0 moves left x.3)
+pub end_as_read : (read : List ℕ) (messages : List Message) (held : List ℕ) (end : End) → Takes read messages held → EndsAs held end → Reads read messages end
+end_as_read read messages held end x y = subst (λ ms. Reads read ms end) (append-nil messages) (reads_rest read messages held [] end x y)
 
-pub reads_however_cut : (moves : List Move) (left : List ℕ) (end : End) → Leads [] moves left → EndsAs left end → Reads (fed_by moves) (taken_by moves) end
-reads_however_cut moves left end x y =
-    subst (λ ms. Reads (fed_by moves) ms end) (append-nil (taken_by moves)) (reads_rest (fed_by moves) (taken_by moves) left [] end (leads_takes [] moves left x) y)
+pub fault_as_read : (read unread : List ℕ) (messages : List Message) (held : List ℕ) (fault : FrameFault)
+    → Takes read messages held → HasFault held fault → Reads (read ++ unread) messages (at_fault fault)
+fault_as_read read unread messages held fault x y =
+    end_as_read (read ++ unread) messages (held ++ unread) (at_fault fault) (taken_more read unread messages held x) (fault_more held unread fault y)
 
-pub fault_however_cut : (moves : List Move) (left : List ℕ) (fault : FrameFault) (later : List ℕ)
-    → Leads [] moves left → HasFault left fault → Reads (fed_by moves ++ later) (taken_by moves) (at_fault fault)
-fault_however_cut moves left fault later x y =
-    let taken = taken_more (fed_by moves) later (taken_by moves) left (leads_takes [] moves left x) in
-    subst (λ ms. Reads (fed_by moves ++ later) ms (at_fault fault)) (append-nil (taken_by moves))
-    (reads_rest (fed_by moves ++ later) (taken_by moves) (left ++ later) [] (at_fault fault) taken (fault_more left later fault y))
+pub last_as_read : (read unread : List ℕ) (messages : List Message) (held : List ℕ) (message : Message) (rest : List ℕ)
+    → Takes read messages held → IsMessage held message rest → IsTrue message.last → Reads (read ++ unread) (messages ++ message ∷ []) at_last
+last_as_read read unread messages held message rest x y is =
+    reads_rest (read ++ unread) messages (held ++ unread) (message ∷ []) at_last (taken_more read unread messages held x)
+    (rest ++ unread, message_more held unread message rest y, stops_here _ message.last is (refl, refl))
 
-pub last_however_cut : (moves : List Move) (left : List ℕ) (message : Message) (rest later : List ℕ)
-    → Leads [] moves left → IsMessage left message rest → IsTrue message.last → Reads (fed_by moves ++ later) (taken_by moves ++ message ∷ []) at_last
-last_however_cut moves left message rest later x y is =
-    let taken = taken_more (fed_by moves) later (taken_by moves) left (leads_takes [] moves left x) in
-    reads_rest (fed_by moves ++ later) (taken_by moves) (left ++ later) (message ∷ []) at_last taken
-    (rest ++ later, message_more left later message rest y, stops_here _ message.last is (refl, refl))
+either_way : {P Q : Type 0} (b : Bool) → P → Q → MatchBool b P Q
+either_way true p q = p
+either_way false p q = q
+
+begins : (bytes : List ℕ) (messages : List Message) (rest : List ℕ) → Takes bytes messages rest → BeginsWith bytes messages
+begins bytes [] rest x = tt
+begins bytes (m ∷ messages) rest x = (x.0, x.1, goes_on _ m.last x.2 (begins x.0 messages rest x.3))
+
+begins_more : (bytes : List ℕ) (messages : List Message) (rest : List ℕ) (message : Message) (more : List ℕ)
+    → Takes bytes messages rest → IsMessage rest message more → BeginsWith bytes (messages ++ message ∷ [])
+begins_more bytes [] rest message more x y = (more, subst (λ s. IsMessage s message more) (sym x) y, either_way message.last refl tt)
+begins_more bytes (m ∷ messages) rest message more x y = (x.0, x.1, goes_on _ m.last x.2 (begins_more x.0 messages rest message more x.3 y))
+
+pub first_as_read : (read unread : List ℕ) (messages : List Message) (held : List ℕ) → Takes read messages held → BeginsWith (read ++ unread) messages
+first_as_read read unread messages held x = begins (read ++ unread) messages (held ++ unread) (taken_more read unread messages held x)
+
+pub one_more_as_read : (read unread : List ℕ) (messages : List Message) (held : List ℕ) (message : Message) (rest : List ℕ)
+    → Takes read messages held → IsMessage held message rest → BeginsWith (read ++ unread) (messages ++ message ∷ [])
+one_more_as_read read unread messages held message rest x y =
+    begins_more (read ++ unread) messages (held ++ unread) message (rest ++ unread) (taken_more read unread messages held x) (message_more held unread message rest y)
+
+pub first_of_all : (bytes : List ℕ) (messages all : List Message) (end : End) → BeginsWith bytes messages → Reads bytes all end → (others : List Message) × (all ≡ messages ++ others)
+first_of_all bytes [] all end x y = (all, refl)
+first_of_all bytes (m ∷ messages) [] end x y = absurd (no_more bytes end m x.0 y x.1)
+first_of_all bytes (m ∷ messages) (n ∷ all) end x y =
+    let same = one_message bytes n m y.0 x.0 y.1 x.1 in
+    let other : MatchBool m.last ((all ≡ []) × (end ≡ at_last)) (Reads x.0 all end) =
+    subst (λ r. MatchBool m.last ((all ≡ []) × (end ≡ at_last)) (Reads r all end)) same.1 (subst (λ (k : Message). MatchBool k.last ((all ≡ []) × (end ≡ at_last)) (Reads y.0 all end)) same.0 y.2) in
+    either m.last x.2 other
+    (λ p q. ([], ap (λ z. z ∷ all) same.0 ∙ ap (λ zs. m ∷ zs) (q.0 ∙ sym p ∙ sym (append-nil messages))))
+    (λ p q. let r = first_of_all x.0 messages all end p q in (r.0, ap (λ z. z ∷ all) same.0 ∙ ap (λ zs. m ∷ zs) r.1))
+
+each_way : {P Q S T : Type 0} (b : Bool) → MatchBool b P Q → (P → S) → (Q → T) → MatchBool b S T
+each_way true x f g = f x
+each_way false x f g = g x
+
+pub reads_begin : (bytes : List ℕ) (messages : List Message) (end : End) → Reads bytes messages end → BeginsWith bytes messages
+reads_begin bytes [] end x = tt
+reads_begin bytes (m ∷ messages) end x = (x.0, x.1, each_way m.last x.2 (λ p. p.0) (λ q. reads_begin x.0 messages end q))

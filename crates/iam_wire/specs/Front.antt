@@ -4,7 +4,6 @@ use Rattle.std.specs.List.{list_all, list_any, slice_split}
 use Rattle.std.specs.Str.{is_utf8, str_eq_ignore_ascii_case}
 use Rattle.httparse.specs.Grammar.{RequestHead, print_request, ReadsRequest, HasNoRequest, MayBecomeRequest, NeverHasRequest, EndsInTarget, trim_ows}
 use Rattle.iam_wire.specs.Fields.{fields_of, values_named, appears, number_of}
-use Rattle.iam_wire.specs.Plain.{max_head, max_fields}
 use Rattle.iam_wire.specs.declared.message.Field.{Field}
 use Rattle.iam_wire.specs.declared.message.Field.TheVariants.{Absent, One, Bad}
 use Rattle.iam_wire.specs.declared.message.Message.{Message}
@@ -12,6 +11,13 @@ use Rattle.iam_wire.specs.declared.fault.FrameFault.{FrameFault}
 use Rattle.iam_wire.specs.declared.fault.FrameFault.TheVariants.{BadHead, TooLarge, NeedLength}
 use Rattle.iam_wire.specs.declared.fault.Judgement.{Judgement}
 use Rattle.iam_wire.specs.declared.fault.Judgement.TheVariants.{Sized, Faulty}
+
+-- bytes of a head, its empty line included
+abbrev pub max_head : ℕ
+max_head = 16384
+
+abbrev pub max_fields : ℕ
+max_fields = 64
 
 abbrev pub max_body : ℕ
 max_body = 1048576

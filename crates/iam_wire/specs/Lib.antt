@@ -1,7 +1,4 @@
 pub mod Fields
-pub mod Plain
-pub mod Found
-pub mod Messages
 pub mod Reply
 pub mod Front
 pub mod Target

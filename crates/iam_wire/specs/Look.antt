@@ -1,13 +1,14 @@
 -- What the readers of heads and of fronts answer.
-use Rattle.std.specs.Prelude.{◌≡◌, ℕ, ◌≤◌, List, map, drop, length, codes}
+use Rattle.std.specs.Prelude.{◌≡◌, ℕ, ◌<◌, ◌≤◌, List, [], ◌∷◌, map, drop, length, codes}
 use Rattle.httparse.specs.Grammar.{RequestHead, print_request, ReadsRequest, HasNoRequest, MayBecomeRequest, NeverHasRequest}
 use Rattle.httparse.specs.Spans.{header_bytes, span_bytes}
 use Rattle.httparse.specs.declared.spans.HeaderSpan.{HeaderSpan}
 use Rattle.httparse.specs.declared.spans.RequestSpans.{RequestSpans}
 use Rattle.iam_wire.specs.Fields.{fields_of, values_named}
-use Rattle.iam_wire.specs.Found.{IsNamed}
 use Rattle.iam_wire.specs.Front.{is_last, field_of, judged_fields, judged, HasHead, IsMessage, IsPrefix, HasFault}
 use Rattle.iam_wire.specs.declared.fault.Judgement.TheVariants.{Sized}
+use Rattle.iam_wire.specs.declared.fields.Named.{Named}
+use Rattle.iam_wire.specs.declared.fields.Named.TheVariants.{Missing, Once, Repeated}
 use Rattle.iam_wire.specs.declared.head.Head.{Head}
 use Rattle.iam_wire.specs.declared.front.Look.{Look}
 use Rattle.iam_wire.specs.declared.front.Look.TheVariants.{Whole, Open, Closed}
@@ -18,6 +19,12 @@ use Rattle.iam_wire.specs.declared.step.Step.{Step}
 use Rattle.iam_wire.specs.declared.step.Step.TheVariants as step
 use Rattle.iam_wire.specs.declared.wire.Next.{Next}
 use Rattle.iam_wire.specs.declared.wire.Next.TheVariants as next
+
+-- the values of the fields of a name, as far as a caller asks
+abbrev pub IsNamed : List (List ℕ) → Named → Type 0
+IsNamed values Missing = values ≡ []
+IsNamed values (Once value) = values ≡ value.now ∷ []
+IsNamed values Repeated = 1 < length values
 
 -- the head has what the spans and the headers cover
 pub record IsCovered (buf : List ℕ) (spans : RequestSpans) (headers : List HeaderSpan) (found : Head) : Type 0 where

@@ -1,7 +1,7 @@
 -- The messages of a whole input, and how it ends, whatever the pieces that it comes in.
-use Rattle.std.specs.Prelude.{◌≡◌, ◌≢◌, ℕ, List, [], ◌∷◌, ◌++◌, IsTrue, IsFalse}
+use Rattle.std.specs.Prelude.{◌≡◌, ◌≢◌, ℕ, ◌+◌, ◌<◌, List, [], ◌∷◌, ◌++◌, length, IsTrue, IsFalse}
 use Rattle.std.specs.Bool.{MatchBool}
-use Rattle.iam_wire.specs.Front.{IsMessage, IsPrefix, HasFault}
+use Rattle.iam_wire.specs.Front.{max_head, max_body, IsMessage, IsPrefix, HasFault}
 use Rattle.iam_wire.specs.declared.fault.FrameFault.{FrameFault}
 use Rattle.iam_wire.specs.declared.message.Message.{Message}
 
@@ -30,6 +30,11 @@ abbrev pub Takes : List ℕ → List Message → List ℕ → Type 0
 Takes bytes [] rest = bytes ≡ rest
 Takes bytes (message ∷ messages) rest = (more : List ℕ) × IsMessage bytes message more × IsFalse message.last × Takes more messages rest
 
+-- the bytes begin with these messages, of which none but the last ends the conversation
+abbrev pub BeginsWith : List ℕ → List Message → Type 0
+BeginsWith bytes [] = Unit {0}
+BeginsWith bytes (message ∷ messages) = (rest : List ℕ) × IsMessage bytes message rest × MatchBool message.last (messages ≡ []) (BeginsWith rest messages)
+
 -- ---- one front, and always one
 
 -- the same bytes are at most one message and one rest
@@ -50,6 +55,9 @@ WholeIsNoFault = (bytes : List ℕ) (message : Message) (rest : List ℕ) (fault
 
 abbrev pub PrefixIsNoFault : Type 0
 PrefixIsNoFault = (bytes : List ℕ) (fault : FrameFault) → IsPrefix bytes → ¬ (HasFault bytes fault)
+
+abbrev pub PrefixIsShort : Type 0
+PrefixIsShort = (bytes : List ℕ) → IsPrefix bytes → length bytes < max_head + max_body
 
 -- no bytes are none of the three
 abbrev pub SomeFront : Type 0
@@ -106,46 +114,40 @@ TakesTheirFirst =
     → Takes bytes messages rest → Reads bytes all end
     → (others : List Message) × (all ≡ messages ++ others) × Reads rest others end
 
--- ---- pieces
+-- ---- an input that is read in pieces: of the bytes that were read these messages were taken, and so much of them is held
 
--- a piece is fed, or a message that doesn't end the conversation is taken
-pub data Move : Type 0 where
-  fed : List ℕ → Move
-  took : Message → Move
+-- where the input was read to its end
+abbrev pub EndAsRead : Type 0
+EndAsRead = (read : List ℕ) (messages : List Message) (held : List ℕ) (end : End) → Takes read messages held → EndsAs held end → Reads read messages end
 
--- all bytes that were fed
-abbrev pub fed_by : List Move → List ℕ
-fed_by [] = []
-fed_by (fed piece ∷ moves) = piece ++ fed_by moves
-fed_by (took message ∷ moves) = fed_by moves
-
--- all messages that were taken
-abbrev pub taken_by : List Move → List Message
-taken_by [] = []
-taken_by (fed piece ∷ moves) = taken_by moves
-taken_by (took message ∷ moves) = message ∷ taken_by moves
-
--- the moves lead from the bytes that are held to what is left
-abbrev pub Leads : List ℕ → List Move → List ℕ → Type 0
-Leads held [] left = held ≡ left
-Leads held (fed piece ∷ moves) left = Leads (held ++ piece) moves left
-Leads held (took message ∷ moves) left = (rest : List ℕ) × IsMessage held message rest × IsFalse message.last × Leads rest moves left
-
--- however the pieces were cut, the messages that were taken and the end at which nothing more can be taken are those of all the bytes
-abbrev pub ReadsHoweverCut : Type 0
-ReadsHoweverCut =
-    (moves : List Move) (left : List ℕ) (end : End)
-    → Leads [] moves left → EndsAs left end → Reads (fed_by moves) (taken_by moves) end
-
--- a fault is that of all the bytes, whatever comes later
-abbrev pub FaultHoweverCut : Type 0
-FaultHoweverCut =
-    (moves : List Move) (left : List ℕ) (fault : FrameFault) (later : List ℕ)
-    → Leads [] moves left → HasFault left fault → Reads (fed_by moves ++ later) (taken_by moves) (at_fault fault)
+-- a fault is that of the whole input, whatever is unread
+abbrev pub FaultAsRead : Type 0
+FaultAsRead =
+    (read unread : List ℕ) (messages : List Message) (held : List ℕ) (fault : FrameFault)
+    → Takes read messages held → HasFault held fault → Reads (read ++ unread) messages (at_fault fault)
 
 -- so is a message that ends the conversation
-abbrev pub LastHoweverCut : Type 0
-LastHoweverCut =
-    (moves : List Move) (left : List ℕ) (message : Message) (rest later : List ℕ)
-    → Leads [] moves left → IsMessage left message rest → IsTrue message.last
-    → Reads (fed_by moves ++ later) (taken_by moves ++ message ∷ []) at_last
+abbrev pub LastAsRead : Type 0
+LastAsRead =
+    (read unread : List ℕ) (messages : List Message) (held : List ℕ) (message : Message) (rest : List ℕ)
+    → Takes read messages held → IsMessage held message rest → IsTrue message.last → Reads (read ++ unread) (messages ++ message ∷ []) at_last
+
+-- the input begins with those that were taken
+abbrev pub TakenAsRead : Type 0
+TakenAsRead = (read unread : List ℕ) (messages : List Message) (held : List ℕ) → Takes read messages held → BeginsWith (read ++ unread) messages
+
+-- and with the next one behind them
+abbrev pub OneMoreAsRead : Type 0
+OneMoreAsRead =
+    (read unread : List ℕ) (messages : List Message) (held : List ℕ) (message : Message) (rest : List ℕ)
+    → Takes read messages held → IsMessage held message rest → BeginsWith (read ++ unread) (messages ++ message ∷ [])
+
+-- what an input begins with are the first of its messages
+abbrev pub FirstOfAll : Type 0
+FirstOfAll =
+    (bytes : List ℕ) (messages all : List Message) (end : End)
+    → BeginsWith bytes messages → Reads bytes all end → (others : List Message) × (all ≡ messages ++ others)
+
+-- all messages of an input are what it begins with
+abbrev pub AllAreFirst : Type 0
+AllAreFirst = (bytes : List ℕ) (messages : List Message) (end : End) → Reads bytes messages end → BeginsWith bytes messages

@@ -2,7 +2,7 @@
 ghost use Rattle.std.specs.Prelude.{◌≡◌, length, map, All};
 ghost use Rattle.httparse.specs.Spans.{IsHeaderWithin, header_bytes};
 ghost use Rattle.iam_wire.specs.Fields.{values_named};
-ghost use Rattle.iam_wire.specs.Found.{IsNamed};
+ghost use Rattle.iam_wire.specs.Look.{IsNamed};
 
 use httparse::spans::HeaderSpan;
 

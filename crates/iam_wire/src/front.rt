@@ -1,7 +1,7 @@
 // What stands at the front of bytes.
 ghost use Rattle.std.specs.Prelude.{◌≡◌, IfOk, MatchOption, length, take};
 ghost use Rattle.httparse.specs.Spans.{RequestExceeds};
-ghost use Rattle.iam_wire.specs.Plain.{max_head};
+ghost use Rattle.iam_wire.specs.Front.{max_head};
 ghost use Rattle.iam_wire.specs.Look.{IsFront, IsLook, IsWhole};
 
 use crate::fault::{FrameFault, Judgement};

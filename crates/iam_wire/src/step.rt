@@ -1,15 +1,13 @@
 // The message at the front of bytes.
 ghost use Rattle.std.specs.Prelude.{◌≡◌, IfOk, IsUtf8, List, ℕ};
-ghost use Rattle.iam_wire.specs.Found.{IsNamed};
 ghost use Rattle.iam_wire.specs.Front as spec;
-ghost use Rattle.iam_wire.specs.Look.{HasWhole, IsMade, IsStep};
+ghost use Rattle.iam_wire.specs.Look.{HasWhole, IsMade, IsNamed, IsStep};
 
 use crate::fault::FrameFault;
 use crate::fields::Named;
 use crate::front::{Front, front_of};
 use crate::head::Head;
 use crate::message::{Field, Message};
-use crate::plain::text_of;
 use iam_text::{List, OutOfMemory, Text};
 use std::alloc::Global;
 use std::str::from_utf8;
@@ -69,5 +67,15 @@ fn field_of(alloc: Global, field: Named) -> Result<Field, OutOfMemory>
             Err(_) => Ok(Field::Bad),
         },
         Named::Repeated => Ok(Field::Bad),
+    }
+}
+
+fn text_of(alloc: Global, bytes: &[u8]) -> Result<Text, OutOfMemory>
+    requires { IsUtf8 bytes.now }
+    ensures { IfOk result (λ text. text ≡ bytes.now) }
+{
+    match from_utf8(bytes) {
+        Ok(text) => Text::of(alloc, text),
+        Err(_) => unreachable!(),
     }
 }

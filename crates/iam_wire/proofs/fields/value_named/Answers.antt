@@ -3,7 +3,7 @@ use Rattle.std.proofs.lemmas.List.{take_rest}
 use Rattle.httparse.specs.Spans.{header_bytes}
 use Rattle.iam_wire.specs.Fields.{values_named}
 use Rattle.iam_wire.proofs.Named.{left, left_named, left_other, none_span}
-use Rattle.iam_wire.proofs.Plains.{nothing_else}
+use Rattle.iam_wire.proofs.Bytes.{nothing_else}
 use Rattle.iam_wire.proofs.fields.value_named.Goals as goal
 
 pub returns-then-count_named-eq0 : goal.returns-then-count_named-eq0

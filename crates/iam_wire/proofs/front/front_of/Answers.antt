@@ -1,7 +1,7 @@
 use Rattle.std.proofs.Common.{arith, subst, length, take}
 use Rattle.std.proofs.lemmas.List.{length-take}
 use Rattle.iam_wire.specs.Look.{IsLook}
-use Rattle.iam_wire.proofs.Plains.{window}
+use Rattle.iam_wire.proofs.Bytes.{window}
 use Rattle.iam_wire.proofs.Room.{never_exceeds}
 use Rattle.iam_wire.proofs.front.front_of.Goals as goal
 
