@@ -1,6 +1,7 @@
 pub mod Askings
 pub mod Calls
 pub mod Cutting
+pub mod Floors
 pub mod Lines
 pub mod Listed
 pub mod Matching

@@ -7,7 +7,7 @@ use Rattle.std.specs.declared.option.Option.{Option}
 use Rattle.std.specs.declared.option.Option.TheVariants.{None, Some}
 use Rattle.iam_names.specs.declared.caller.Caller.{Caller}
 use Rattle.iam_wire.specs.declared.message.Field.{Field}
-use Rattle.iam_routes.specs.Asked.{NamesCaller}
+use Rattle.iam_routes.specs.Asked.{NamesCaller, NamesFloor}
 use Rattle.iam_routes.specs.Places.{seen_piece}
 use Rattle.iam_routes.specs.Routes.{Piece, RouteLine, route_line, lines, IsPath, IsOnTable, Reaches}
 use Rattle.iam_routes.specs.declared.line.Found.{Found}
@@ -70,3 +70,8 @@ IsRouted method target (To route) =
 abbrev pub IsCallerOf : Field → Option Caller → Type 0
 IsCallerOf field None = (caller : Caller) → ¬ (NamesCaller field caller)
 IsCallerOf field (Some caller) = NamesCaller field caller
+
+-- the revision that the header asks for
+abbrev pub IsFloorOf : Field → Option (Option ℕ) → Type 0
+IsFloorOf field None = (floor : Option ℕ) → ¬ (NamesFloor field floor)
+IsFloorOf field (Some floor) = NamesFloor field floor

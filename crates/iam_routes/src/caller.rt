@@ -1,11 +1,14 @@
-// The caller of a message.
+// What the fields of a message name: its caller, and the revision that it asks for.
 ghost use Rattle.std.specs.Prelude.{IfOk};
-ghost use Rattle.iam_routes.specs.Routed.{IsCallerOf};
+ghost use Rattle.iam_routes.specs.Routed.{IsCallerOf, IsFloorOf};
 
 use iam_names::Caller;
 use iam_text::OutOfMemory;
-use iam_wire::Field;
+use iam_wire::{Field, number_of};
 use std::alloc::Global;
+
+/// Digits of a revision.
+const MAX_DIGITS: usize = 19;
 
 /// The caller that the header names.
 pub fn caller_of(alloc: Global, field: &Field) -> Result<Option<Caller>, OutOfMemory>
@@ -15,5 +18,19 @@ pub fn caller_of(alloc: Global, field: &Field) -> Result<Option<Caller>, OutOfMe
         Field::Absent => Ok(Some(Caller::Anonymous)),
         Field::One(text) => Caller::read(alloc, text.as_str()),
         Field::Bad => Ok(None),
+    }
+}
+
+/// The revision that the header asks for, if it asks for one; nothing where it is no number.
+pub fn floor_of(field: &Field) -> Option<Option<u64>>
+    ensures { IsFloorOf field.now result }
+{
+    match field {
+        Field::Absent => Some(None),
+        Field::One(text) => match number_of(text.as_str().as_bytes(), MAX_DIGITS) {
+            Some(number) => Some(Some(number)),
+            None => None,
+        },
+        Field::Bad => None,
     }
 }
