@@ -19,21 +19,22 @@ tells_ran accepted old new rows turns none good kept tells =
     (d.0, d.1.0, d.2.1 refl, subst (KeepsTables rows) (sym d.1.1) kept)
 
 -- the same of a whole conversation
-talked_ran : {P : Type 0} (accepted : Alone P → ℕ) (old new : Alone P) (rows : Option (List Row)) (before now : Option (List ℕ)) (input : List ℕ) (end : TalkEnd) (trace : List Step) →
-    old.waiting ≡ None → Good old.tables → KeepsTables rows (current new) → Talked (Tells StandsFor accepted true old new) before now input end trace → Talked (RanFrom old.tables rows) before now input end trace
-talked_ran accepted old new rows before now input end trace none good kept talk = record {
+talked_ran : {P : Type 0} (accepted : Alone P → ℕ) (old new : Alone P) (rows : Option (List Row)) (before now : Option (List ℕ)) (read unread : List ℕ) (end : TalkEnd) (trace : List Step) →
+    old.waiting ≡ None → Good old.tables → KeepsTables rows (current new) → Talked (Tells StandsFor accepted true old new) before now read unread end trace → Talked (RanFrom old.tables rows) before now read unread end trace
+talked_ran accepted old new rows before now read unread end trace none good kept talk = record {
   turns = talk.turns;
-  rest = talk.rest;
-  tail = talk.tail;
+  stop = talk.stop;
   told = tells_ran accepted old new rows talk.turns none good kept talk.told;
   found = talk.found;
-  fits = talk.fits;
+  clock = talk.clock;
   most = talk.most;
+  ends = talk.ends;
   written = talk.written;
-  closes = talk.closes;
+  traced = talk.traced;
 }
 
-pub ran_from : {P : Type 0} (accepted : Alone P → ℕ) (old new : Alone P) (rows : Option (List Row)) (before now : Option (List ℕ)) (end : TalkEnd) (trace : List Step) (left : Option (List ℕ)) →
+pub ran_from : {P : Type 0} (accepted : Alone P → ℕ) (old new : Alone P) (rows : Option (List Row)) (before now : Option (List ℕ)) (end : TalkEnd) (trace : List Step) (left later : Option (List ℕ)) →
     old.waiting ≡ None → Good old.tables → KeepsTables rows (current new) →
-    OfInput left (λ input. Talked (Tells StandsFor accepted true old new) before now input end trace) → OfInput left (λ input. Talked (RanFrom old.tables rows) before now input end trace)
-ran_from accepted old new rows before now end trace left none good kept talk = (talk.0, talk.1, talked_ran accepted old new rows before now talk.0 end trace none good kept talk.2)
+    OfInput left later (λ read unread. Talked (Tells StandsFor accepted true old new) before now read unread end trace) → OfInput left later (λ read unread. Talked (RanFrom old.tables rows) before now read unread end trace)
+ran_from accepted old new rows before now end trace left later none good kept talk =
+    (talk.0, talk.1, talk.2, talk.3, talked_ran accepted old new rows before now talk.0 talk.1 end trace none good kept talk.4)

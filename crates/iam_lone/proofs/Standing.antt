@@ -44,14 +44,14 @@ number_is laws now t h s = ap (λ (x : Tables). x.org.changes) (sym s.1) ∙ law
 
 -- ---- floors and reads
 
-floor_reached : Histories → (now : Tables) (known floor : ℕ) → known ≡ now.org.changes → floor ≤ known → (t : Tables) (h : List Entry) → StandsAt now t h → (floor ≤ Number t (h ++ none)) × (IsTrue true → none ≡ [])
-floor_reached laws now known floor at le t h s = (omega (arith, at, number_is laws now t h s, number_after t h []), λ u. refl)
+floor_reached : Histories → (now : Tables) (known floor : ℕ) → known ≡ now.org.changes → floor ≤ known → (t : Tables) (h : List Entry) → StandsAt now t h → (floor ≤ Number t (h ++ none)) × (IsTrue true → (none ≡ []) × (floor ≤ (state t h).org.changes))
+floor_reached laws now known floor at le t h s = (omega (arith, at, number_is laws now t h s, number_after t h []), λ u. (refl, omega (arith, at, le, ap (λ (x : Tables). x.org.changes) s.1)))
 
 floor_ahead : Histories → (now : Tables) (known floor : ℕ) → known ≡ now.org.changes → known < floor → (t : Tables) (h : List Entry) → StandsAt now t h →
-    (known < floor) × (Number t h < floor) × (known ≤ Number t (h ++ none)) × (IsTrue true → (none ≡ []) × (known ≡ Number t h))
+    (known < floor) × (Number t h < floor) × (t.org.changes ≤ known) × (known ≤ Number t (h ++ none)) × (IsTrue true → (none ≡ []) × (known ≡ (state t h).org.changes))
 floor_ahead laws now known floor at lt t h s =
     let is = number_is laws now t h s in
-    (lt, omega (arith, at), omega (arith, at, number_after t h []), λ u. (refl, at ∙ is))
+    (lt, omega (arith, at, is), omega (arith, at, is), omega (arith, at, is, number_after t h []), λ u. (refl, at ∙ ap (λ (x : Tables). x.org.changes) (sym s.1)))
 
 read_told : Histories → (now : Tables) (ask : Ask) (caller : Caller) (moment : Moment) (number : ℕ) (value : Answer) → number ≡ now.org.changes → value ≡ answer_of now ask caller moment → (t : Tables) (h : List Entry) → StandsAt now t h →
     (number ≡ Number t (h ++ none)) × (value ≡ answer_of (state t (h ++ none)) ask caller moment) × (IsTrue true → (none ≡ []) × (number ≡ (state t h).org.changes))

@@ -19,7 +19,7 @@ fn talk<L: Line, C: Clock, P: Keeper>(
     clock: &mut C,
 ) -> Talk
     requires { office.old.waiting ≡ None }
-    ensures talked { OfInput (L.left line.old) (λ input. Talked (RanFrom office.old.tables (P.rows office.new.keeper)) (L.taken line.old) (L.taken line.new) input result.end result.trace) }
+    ensures talked { OfInput (L.left line.old) (L.left line.new) (λ read unread. Talked (RanFrom office.old.tables (P.rows office.new.keeper)) (L.taken line.old) (L.taken line.new) read unread result.end result.trace) }
     ensures clock { Clocked (C.given clock.old) (C.given clock.new) (C.clock_faults clock.old) (C.clock_faults clock.new) result.trace }
     ensures faults { Rise (all_keeper_faults result.trace) (P.keeper_faults office.old.keeper) (P.keeper_faults office.new.keeper) }
     ensures causes { Caused result.end (L.read_faults line.old) (L.read_faults line.new) (L.write_faults line.old) (L.write_faults line.new) (C.clock_faults clock.old) (C.clock_faults clock.new) }
@@ -41,7 +41,7 @@ pub fn converse_alone<L: Line, C: Clock, P: Keeper>(
     clock: &mut C,
 ) -> Talk
     requires { KeepsTables (P.rows keeper.old) index }
-    ensures talked { OfInput (L.left line.old) (λ input. Talked (RanFrom index (P.rows keeper.new)) (L.taken line.old) (L.taken line.new) input result.end result.trace) }
+    ensures talked { OfInput (L.left line.old) (L.left line.new) (λ read unread. Talked (RanFrom index (P.rows keeper.new)) (L.taken line.old) (L.taken line.new) read unread result.end result.trace) }
     ensures clock { Clocked (C.given clock.old) (C.given clock.new) (C.clock_faults clock.old) (C.clock_faults clock.new) result.trace }
     ensures faults { Rise (all_keeper_faults result.trace) (P.keeper_faults keeper.old) (P.keeper_faults keeper.new) }
     ensures causes { Caused result.end (L.read_faults line.old) (L.read_faults line.new) (L.write_faults line.old) (L.write_faults line.new) (C.clock_faults clock.old) (C.clock_faults clock.new) }

@@ -7,7 +7,7 @@ ghost use Rattle.iam_model.specs.Commands.{IsEntry};
 ghost use Rattle.iam_model.specs.Formed.{IsChange};
 ghost use Rattle.iam_outer.specs.Causes.{Rose};
 ghost use Rattle.iam_rows.specs.Kept.{KeepsTables};
-ghost use Rattle.iam_types.specs.declared.tables.Tables.{Tables as TheTables};
+ghost use Rattle.iam_types.specs.declared.tables.Tables as spec;
 ghost use Rattle.iam_lone.specs.Histories.{Histories};
 ghost use Rattle.iam_lone.specs.Lone.{IsJudged, IsKept, IsWaiting, with_waiting};
 
@@ -52,7 +52,7 @@ pub fn advance(
 
 // The answer to a change that the index has taken up.
 fn answer_to(alloc: Global, index: &Index, command: &Command) -> Result<Numbered<Answer>, WriteStop>
-    ensures { (before : TheTables) → (result ≡ Ok (record { number = index.now.org.changes; value = written_answer before index.now command.now })) ⊎ (result ≡ Err (WriteStop.OutOfMemory (Some index.now.org.changes))) }
+    ensures { (before : spec.Tables) → (result ≡ Ok (record { number = index.now.org.changes; value = written_answer before index.now command.now })) ⊎ (result ≡ Err (WriteStop.OutOfMemory (Some index.now.org.changes))) }
 {
     let number = index.tables().org.changes;
     match written(alloc, index, command) {

@@ -20,12 +20,12 @@ use Rattle.iam_json.specs.declared.details.Details.TheVariants.{ClockFault}
 use Rattle.iam_json.specs.declared.reply.ErrorReply.{ErrorReply}
 use Rattle.iam_wire.specs.declared.message.Message.{Message}
 use Rattle.iam_routes.specs.Asked.{IsAsked}
-use Rattle.iam_routes.specs.declared.given.Asked.TheVariants.{Refused}
+use Rattle.iam_routes.specs.declared.given.Asked.TheVariants.{Refused, Given}
 use Rattle.iam_answer.specs.Answer.{accepts, answer_of}
 use Rattle.iam_answer.specs.Replies.{served_reply}
 use Rattle.iam_answer.proofs.Accepting.{written_accepts}
-use Rattle.iam_office.specs.Asks.{GivesCall, AsksRead, AsksWrite}
-use Rattle.iam_office.specs.Handled.{Answers}
+use Rattle.iam_office.specs.Asks.{GivesCall, AsksWrite}
+use Rattle.iam_office.specs.Handled.{Answers, Reached}
 use Rattle.iam_office.specs.Office.{Number, first, Judged, IsLastOf, IsStoredAt, JudgedAlone, StoredAlone, WriteTold, gained, verdict}
 use Rattle.iam_office.specs.Replied.{Replied}
 use Rattle.iam_office.specs.Replying.{IsShown, IsStopped, SaysNoMemory, SaysPlainly}
@@ -34,6 +34,7 @@ use Rattle.iam_office.specs.declared.office.WriteStop.{WriteStop}
 use Rattle.iam_office.specs.declared.office.WriteStop.TheVariants.{KeeperFault as WriteFailed, OutOfMemory as WriteMemory}
 use Rattle.iam_office.specs.declared.office.Numbered.{Numbered}
 use Rattle.iam_office.proofs.Leading.{number_after}
+use Rattle.iam_office.proofs.Saying.{met_more}
 
 -- the first entries up to the number of the whole history
 first_whole : (t : Tables) (h : List Entry) (n : ℕ) → n ≡ Number t h → first t n h ≡ h
@@ -68,26 +69,26 @@ refused alone message error said bytes t h asked says = elim says [
   | inr none ↦ unanswered alone message None said bytes t h [] tt none (λ one. refl)
 ]
 
-pub read_gives : (message : Message) (caller : Caller) (ask : Ask) → AsksRead message caller ask → GivesCall message
-read_gives message caller ask asked = (caller, Read ask, asked)
+pub read_gives : (message : Message) (caller : Caller) (floor : Option ℕ) (ask : Ask) → IsAsked message (Given caller floor (Read ask)) → GivesCall message
+read_gives message caller floor ask asked = (caller, floor, Read ask, asked)
 
-pub write_gives : (message : Message) (e : Entry) → AsksWrite message e → GivesCall message
-write_gives message e asked = (e.caller, Write e.command, asked)
+pub write_gives : (message : Message) (e : Entry) (floor : Option ℕ) → IsAsked message (Given e.caller floor (Write e.command)) → GivesCall message
+write_gives message e floor asked = (e.caller, floor, Write e.command, asked)
 
 -- ---- reads
 
-pub read_answers : (alone : Bool) (message : Message) (ask : Ask) (caller : Caller) (moment : Moment) (answer : Numbered Answer) (bytes : List ℕ) (t : Tables) (h more : List Entry) →
-    AsksRead message caller ask → bytes ≡ served_reply answer.number moment answer.value
+pub read_answers : (alone : Bool) (message : Message) (ask : Ask) (caller : Caller) (floor : Option ℕ) (moment : Moment) (answer : Numbered Answer) (bytes : List ℕ) (t : Tables) (h more : List Entry) →
+    IsAsked message (Given caller floor (Read ask)) → Reached alone floor t h → bytes ≡ served_reply answer.number moment answer.value
     → (answer.number ≡ Number t (h ++ more)) × (answer.value ≡ answer_of (state t (h ++ more)) ask caller moment) × (IsTrue alone → (more ≡ []) × (answer.number ≡ (state t h).org.changes))
     → Answers alone message (Served answer.number moment) bytes t h more
 unfolding Says Replied
-read_answers alone message ask caller moment answer bytes t h more asked made told =
+read_answers alone message ask caller floor moment answer bytes t h more asked reached made told =
     let grown = number_after t h more in
     let whole : state t (first t answer.number (h ++ more)) ≡ state t (h ++ more) = ap (state t) (first_whole t (h ++ more) answer.number told.0) in
     let shown : bytes ≡ served_reply answer.number moment (answer_of (state t (h ++ more)) ask caller moment) = made ∙ ap (served_reply answer.number moment) told.1 in (
-      (omega (arith, told.0), omega (arith, told.0), inl (caller, ask, asked, omega (arith, told.0), shown ∙ ap (λ s. served_reply answer.number moment (answer_of s ask caller moment)) (sym whole))),
+      (omega (arith, told.0), omega (arith, told.0), inr (inl (caller, ask, (floor, met_more floor (Number t h) answer.number (omega (arith, told.0, grown)) reached.0, asked), omega (arith, told.0), shown ∙ ap (λ s. served_reply answer.number moment (answer_of s ask caller moment)) (sym whole)))),
       λ one. let exact = told.2 one in
-          inl (caller, ask, asked, exact.0, exact.1, shown ∙ ap (λ s. served_reply answer.number moment (answer_of s ask caller moment)) (same_state t h more exact.0)),
+          inr (inl (caller, ask, (floor, reached.1 one, asked), exact.0, exact.1, shown ∙ ap (λ s. served_reply answer.number moment (answer_of s ask caller moment)) (same_state t h more exact.0))),
     )
 
 -- ---- writes
@@ -127,31 +128,35 @@ all_gained : (j : Option Refusal) (now : Tables) (e : Entry) (more : List Entry)
 all_gained (Some refusal) now e more value one gains is = absurd (omega (arith, one, ap accepts is))
 all_gained None now e more value one gains is = (refl, gains)
 
+-- its floor is met by the history that it leads to
+said_write : (message : Message) (e : Entry) (alone : Bool) (floor : Option ℕ) (t : Tables) (h more : List Entry) → IsAsked message (Given e.caller floor (Write e.command)) → Reached alone floor t h → AsksWrite message (Number t (h ++ more)) e
+said_write message e alone floor t h more asked reached = (floor, met_more floor (Number t h) (Number t (h ++ more)) (omega (arith, number_after t h more)) reached.0, asked)
+
 -- a write that is answered
-pub write_answers : (alone : Bool) (message : Message) (e : Entry) (answer : Numbered Answer) (step : Step) (bytes : List ℕ) (t : Tables) (h more : List Entry) →
-    AsksWrite message e → IsShown answer.number e.moment answer.value step bytes → WriteTold alone e (Ok answer) t h more → Answers alone message step bytes t h more
+pub write_answers : (alone : Bool) (message : Message) (e : Entry) (floor : Option ℕ) (answer : Numbered Answer) (step : Step) (bytes : List ℕ) (t : Tables) (h more : List Entry) →
+    IsAsked message (Given e.caller floor (Write e.command)) → Reached alone floor t h → IsShown answer.number e.moment answer.value step bytes → WriteTold alone e (Ok answer) t h more → Answers alone message step bytes t h more
 unfolding Says Replied JudgedAlone StoredAlone
-write_answers alone message e answer step bytes t h more asked shown told = elim shown [
+write_answers alone message e floor answer step bytes t h more asked reached shown told = elim shown [
   | inl served ↦ subst (λ s. Answers alone message s bytes t h more) (sym served.0)
-      ((told.0, told.1, inr (e, asked, refl, (answer.value, told.2, served.1))), λ one. inr (e, asked, refl, (answer.value, told.3 one, served.1)))
-  | inr (inl none) ↦ unanswered alone message (Some e.moment) step bytes t h more (write_gives message e asked) none.1 (λ one.
+      ((told.0, told.1, inr (inr (e, said_write message e alone floor t h more asked reached, refl, (answer.value, told.2, served.1)))), λ one. inr (inr (e, (floor, reached.1 one, asked), refl, (answer.value, told.3 one, served.1))))
+  | inr (inl none) ↦ unanswered alone message (Some e.moment) step bytes t h more (write_gives message e floor asked) none.1 (λ one.
       let judged = told.3 one in nothing_gained _ _ e more answer.value none.0 judged.0 judged.2)
   | inr (inr stored) ↦ subst (λ s. Answers alone message s bytes t h more) (sym stored.1.step) (
-    (e, asked, refl, accepted_is_stored t (h ++ more) answer.number e answer.value told.0 told.1 told.2 stored.0, stored.1.reply),
+    (e, said_write message e alone floor t h more asked reached, refl, accepted_is_stored t (h ++ more) answer.number e answer.value told.0 told.1 told.2 stored.0, stored.1.reply),
     λ one.
-        let judged = told.3 one in let gains = all_gained _ _ e more answer.value stored.0 judged.0 judged.2 in (e, asked, refl, (gains.0, gains.1, judged.1), stored.1.reply),
+        let judged = told.3 one in let gains = all_gained _ _ e more answer.value stored.0 judged.0 judged.2 in (e, (floor, reached.1 one, asked), refl, (gains.0, gains.1, judged.1), stored.1.reply),
   )
 ]
 
 -- a write that was stopped
-pub write_stopped : (alone : Bool) (message : Message) (e : Entry) (stop : WriteStop) (step : Step) (bytes : List ℕ) (t : Tables) (h more : List Entry) →
-    AsksWrite message e → IsStopped stop e.moment step bytes → WriteTold alone e (Err stop) t h more → Answers alone message step bytes t h more
+pub write_stopped : (alone : Bool) (message : Message) (e : Entry) (floor : Option ℕ) (stop : WriteStop) (step : Step) (bytes : List ℕ) (t : Tables) (h more : List Entry) →
+    IsAsked message (Given e.caller floor (Write e.command)) → Reached alone floor t h → IsStopped stop e.moment step bytes → WriteTold alone e (Err stop) t h more → Answers alone message step bytes t h more
 unfolding Says Replied
-write_stopped alone message e WriteFailed step bytes t h more asked said told = elim said [
+write_stopped alone message e floor WriteFailed step bytes t h more asked reached said told = elim said [
   | inl failed ↦ subst (λ s. Answers alone message s bytes t h more) (sym failed.0)
-      ((e, asked, refl, failed.1), λ one. let exact = told one in (e, asked, refl, exact.1, failed.1, exact.0))
-  | inr none ↦ unanswered alone message (Some e.moment) step bytes t h more (write_gives message e asked) none (λ one. (told one).0)
+      ((e, said_write message e alone floor t h more asked reached, refl, failed.1), λ one. let exact = told one in (e, (floor, reached.1 one, asked), refl, exact.1, failed.1, exact.0))
+  | inr none ↦ unanswered alone message (Some e.moment) step bytes t h more (write_gives message e floor asked) none (λ one. (told one).0)
 ]
-write_stopped alone message e (WriteMemory None) step bytes t h more asked said told = unanswered alone message (Some e.moment) step bytes t h more (write_gives message e asked) said told
-write_stopped alone message e (WriteMemory (Some number)) step bytes t h more asked said told =
-    subst (λ s. Answers alone message s bytes t h more) (sym said.step) ((e, asked, refl, told.0, said.reply), λ one. (e, asked, refl, told.1 one, said.reply))
+write_stopped alone message e floor (WriteMemory None) step bytes t h more asked reached said told = unanswered alone message (Some e.moment) step bytes t h more (write_gives message e floor asked) said told
+write_stopped alone message e floor (WriteMemory (Some number)) step bytes t h more asked reached said told =
+    subst (λ s. Answers alone message s bytes t h more) (sym said.step) ((e, said_write message e alone floor t h more asked reached, refl, told.0, said.reply), λ one. (e, (floor, reached.1 one, asked), refl, told.1 one, said.reply))

@@ -17,7 +17,7 @@ use Rattle.iam_types.specs.declared.command.Command.{Command}
 use Rattle.iam_types.specs.declared.command.Entry.{Entry}
 use Rattle.iam_types.specs.declared.ask.Ask.{Ask}
 use Rattle.iam_model.specs.Commands.{IsCommand}
-use Rattle.iam_json.specs.declared.call.Call.TheVariants.{Write}
+use Rattle.iam_json.specs.declared.call.Call.TheVariants.{Write, Read}
 use Rattle.iam_wire.specs.declared.message.Field.{Field}
 use Rattle.iam_wire.specs.declared.message.Field.TheVariants.{Absent, One, Bad}
 use Rattle.iam_wire.specs.declared.message.Message.{Message}
@@ -27,7 +27,6 @@ use Rattle.iam_routes.specs.declared.given.Asked.TheVariants.{Given}
 use Rattle.iam_answer.proofs.Given.{command_is}
 use Rattle.iam_answer.proofs.Reading.{reads_at, read_line, write_line}
 use Rattle.iam_office.specs.Accepted.{has_verb, only_reads, reading_verbs}
-use Rattle.iam_office.specs.Asks.{AsksRead, AsksWrite}
 
 -- ---- what is asked is well formed
 
@@ -37,9 +36,9 @@ caller_is (One text) caller is = is.0
 caller_is Bad caller is = absurd is
 
 -- the caller and the command of a message
-pub write_is : (message : Message) (caller : Caller) (command : Command) → IsAsked message (Given caller (Write command)) → IsCaller caller × IsCommand command
-write_is message caller command asked =
-    let call = asked.1 in
+pub write_is : (message : Message) (caller : Caller) (floor : Option ℕ) (command : Command) → IsAsked message (Given caller floor (Write command)) → IsCaller caller × IsCommand command
+write_is message caller floor command asked =
+    let call = asked.2 in
     (caller_is message.caller caller asked.0, command_is call.0.line call.1.0 [] call.1.2.0 command call.1.2.2)
 
 -- ---- which lines ask for no change
@@ -117,17 +116,17 @@ by_line message line parts reaches =
     ap (λ m. bytes_eq m (codes "GET") || list_any (has_verb (path_of message.target)) reading_verbs) (sym reaches.method_is)
     ∙ ap (λ reads. bytes_eq line.method (codes "GET") || reads) (by_verb line.verb (path_of message.target) reaches.path.0 reaches.path.1)
 
-pub read_only : (message : Message) (caller : Caller) (ask : Ask) → AsksRead message caller ask → only_reads message ≡ true
-read_only message caller ask asked =
-    let call = asked.1 in
+pub read_only : (message : Message) (caller : Caller) (floor : Option ℕ) (ask : Ask) → IsAsked message (Given caller floor (Read ask)) → only_reads message ≡ true
+read_only message caller floor ask asked =
+    let call = asked.2 in
     let reaches = call.1.1 in
     by_line message call.0 call.1.0 reaches
     ∙ sym (lines_agree (reverse reaches.path.0) call.0 reaches.on_table)
     ∙ read_line call.0.line call.1.0 [] call.1.2.0 ask call.1.2.2
 
-pub write_not_only : (message : Message) (e : Entry) → AsksWrite message e → only_reads message ≡ false
-write_not_only message e asked =
-    let call = asked.1 in
+pub write_not_only : (message : Message) (e : Entry) (floor : Option ℕ) → IsAsked message (Given e.caller floor (Write e.command)) → only_reads message ≡ false
+write_not_only message e floor asked =
+    let call = asked.2 in
     let reaches = call.1.1 in
     by_line message call.0 call.1.0 reaches
     ∙ sym (lines_agree (reverse reaches.path.0) call.0 reaches.on_table)

@@ -10,10 +10,14 @@ use Rattle.iam_outer.specs.Given.{AppendsMoments}
 use Rattle.iam_outer.specs.declared.talk.Step.{Step}
 use Rattle.iam_outer.specs.declared.talk.Step.TheVariants.{Plain, Served, NoClock, NoKeeper, NoMemory}
 use Rattle.iam_types.specs.declared.answer.Answer.{Answer}
+use Rattle.iam_types.specs.declared.answer.Answer.TheVariants.{Refused}
+use Rattle.iam_types.specs.declared.refusal.Refusal.TheVariants.{FutureRevision}
 use Rattle.iam_json.specs.declared.details.Details.{Details}
-use Rattle.iam_office.specs.Replying.{IsShown, IsStopped, IsTimed, SaysNoMemory, SaysPlainly}
-use Rattle.iam_office.specs.Talks.{LostClock}
+use Rattle.iam_office.specs.Replying.{IsShown, IsStopped, IsTimed, IsUnreached, SaysNoMemory, SaysPlainly}
+use Rattle.iam_office.specs.Stops.{LostClock}
 use Rattle.iam_office.specs.Turns.{Clocked, Rise, moments_of, keeper_faults_of, all_keeper_faults, clock_faults_of}
+use Rattle.iam_office.specs.declared.floors.Unreached.{Unreached}
+use Rattle.iam_office.specs.declared.floors.Unreached.TheVariants.{Ahead, OutOfMemory}
 use Rattle.iam_office.specs.declared.office.WriteStop.{WriteStop}
 use Rattle.iam_office.specs.declared.office.WriteStop.TheVariants.{KeeperFault as WriteFailed, OutOfMemory as WriteMemory}
 
@@ -39,6 +43,10 @@ timed_stopped WriteFailed moment said bytes says = elim says [
 ]
 timed_stopped (WriteMemory None) moment said bytes says = timed_no_memory moment said bytes says
 timed_stopped (WriteMemory (Some number)) moment said bytes says = timed_as moment (NoMemory (Some number) (Some moment)) said says.step (record { moments = refl; clock = refl })
+
+pub timed_unreached : (stop : Unreached) (moment : Moment) (said : Step) (bytes : List ℕ) → IsUnreached stop moment said bytes → IsTimed moment said
+timed_unreached (Ahead asked known) moment said bytes says = timed_shown known moment (Refused (FutureRevision asked known)) said bytes says
+timed_unreached OutOfMemory moment said bytes says = timed_no_memory moment said bytes says
 
 -- ---- the clock of one step
 
@@ -136,6 +144,14 @@ rise_stopped WriteFailed moment step bytes a b said le cause = elim said [
 ]
 rise_stopped (WriteMemory None) moment step bytes a b said le cause = rise_none step a b (ap keeper_faults_of said.step) le
 rise_stopped (WriteMemory (Some number)) moment step bytes a b said le cause = rise_none step a b (ap keeper_faults_of said.step) le
+
+pub rise_unreached : (stop : Unreached) (moment : Moment) (step : Step) (bytes : List ℕ) (a b : ℕ) → IsUnreached stop moment step bytes → a ≤ b → Rise (keeper_faults_of step) a b
+rise_unreached (Ahead asked known) moment step bytes a b says le = rise_shown known moment (Refused (FutureRevision asked known)) step bytes a b says le
+rise_unreached OutOfMemory moment step bytes a b says le = rise_none step a b (ap keeper_faults_of says.step) le
+
+-- behind a call in which the count didn't fall
+pub rise_later : (many a b c : ℕ) → a ≤ b → Rise many b c → Rise many a c
+rise_later many a b c le rise = omega (arith, le, rise)
 
 pub rise_plainly : (step : Step) (details : Details) (said : Step) (bytes : List ℕ) (a : ℕ) → keeper_faults_of step ≡ 0 → SaysPlainly step details said bytes → Rise (keeper_faults_of said) a a
 rise_plainly step details said bytes a none says = elim says [

@@ -1,11 +1,13 @@
-pub mod AllMessages
 pub mod Answering
 pub mod Asks
 pub mod Clocks
+pub mod Complete
 pub mod Counting
 pub mod Finishing
 pub mod Follows
 pub mod Going
 pub mod Leading
 pub mod Pieces
+pub mod Reaching
 pub mod Saying
+pub mod Streaming

@@ -1,5 +1,6 @@
 -- One more message is answered.
 use Rattle.std.proofs.Common.{◌≡◌, ℕ, ◌-◌, ◌≤◌, Bool, List, [], ◌∷◌, ◌++◌, Some, None, inl, inr, subst, sym, ◌∙◌, ap, refl, arith, append_assoc, append-nil}
+use Rattle.std.specs.declared.option.Option.{Option}
 use Rattle.std.proofs.lemmas.List.{take-append-le}
 use Rattle.iam_outer.specs.declared.talk.Step.{Step}
 use Rattle.iam_outer.specs.declared.talk.Step.TheVariants.{Plain, Served, NoClock, NoKeeper, NoMemory}
@@ -11,6 +12,7 @@ use Rattle.iam_model.specs.Commands.{after}
 use Rattle.iam_wire.specs.declared.message.Message.{Message}
 use Rattle.iam_answer.specs.Answer.{answer_of}
 use Rattle.iam_answer.specs.Replies.{served_reply}
+use Rattle.iam_office.specs.Asks.{AsksWrite, IsMet}
 use Rattle.iam_office.specs.Handled.{Answers}
 use Rattle.iam_office.specs.Office.{Number, first, Judged, IsStoredAt}
 use Rattle.iam_office.specs.Replied.{Replied, InTurn}
@@ -32,12 +34,21 @@ says_lower t h low least m (Served n x) bytes le p = (
   p.0,
   p.1,
   elim p.2 [
-    | inl read ↦ inl (read.0, read.1, read.2, omega (arith, read.3), read.4)
-    | inr write ↦ inr write
+    | inl floor ↦ inl floor
+    | inr (inl read) ↦ inr (inl (read.0, read.1, read.2, omega (arith, read.3), read.4))
+    | inr (inr write) ↦ inr (inr write)
   ],
 )
 
 -- ---- what may be said stays so when the history grows
+
+-- a floor stays met
+pub met_more : (floor : Option ℕ) (low high : ℕ) → low ≤ high → IsMet floor low → IsMet floor high
+met_more None low high le met = tt
+met_more (Some least) low high le met = omega (arith, le, met)
+
+asks_more : (m : Message) (e : Entry) (t : Tables) (h x : List Entry) → AsksWrite m (Number t h) e → AsksWrite m (Number t (h ++ x)) e
+asks_more m e t h x asks = (asks.0, met_more asks.0 (Number t h) (Number t (h ++ x)) (omega (arith, number_after t h x)) asks.1, asks.2)
 
 -- the first entries stay the same
 first_same : (t : Tables) (h x : List Entry) (n : ℕ) → n ≤ Number t h → first t n (h ++ x) ≡ first t n h
@@ -53,17 +64,18 @@ pub says_more : (t : Tables) (h x : List Entry) (least : ℕ) (m : Message) (ste
 unfolding Says
 says_more t h x least m Plain bytes p = p
 says_more t h x least m NoClock bytes p = p
-says_more t h x least m (NoKeeper y) bytes p = p
+says_more t h x least m (NoKeeper y) bytes p = (p.0, asks_more m p.0 t h x p.1, p.2, p.3)
 says_more t h x least m (NoMemory None y) bytes p = p
-says_more t h x least m (NoMemory (Some n) y) bytes p = (p.0, p.1, p.2, stored_more t h x n p.0 p.3, p.4)
+says_more t h x least m (NoMemory (Some n) y) bytes p = (p.0, asks_more m p.0 t h x p.1, p.2, stored_more t h x n p.0 p.3, p.4)
 says_more t h x least m (Served n y) bytes p =
     let grown = number_after t h x in
     let same = first_same t h x n p.1 in (
       p.0,
       omega (arith, p.1),
       elim p.2 [
-        | inl read ↦ inl (read.0, read.1, read.2, read.3, read.4 ∙ ap (λ k. served_reply n y (answer_of (state t k) read.1 read.0 y)) (sym same))
-        | inr write ↦ inr (write.0, write.1, write.2, (write.3.0, subst (λ k. Judged t k write.0 write.3.0) (sym same) write.3.1, write.3.2))
+        | inl floor ↦ inl floor
+        | inr (inl read) ↦ inr (inl (read.0, read.1, read.2, read.3, read.4 ∙ ap (λ k. served_reply n y (answer_of (state t k) read.1 read.0 y)) (sym same)))
+        | inr (inr write) ↦ inr (inr (write.0, asks_more m write.0 t h x write.1, write.2, (write.3.0, subst (λ k. Judged t k write.0 write.3.0) (sym same) write.3.1, write.3.2)))
       ],
     )
 

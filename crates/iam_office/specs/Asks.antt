@@ -1,5 +1,5 @@
 -- What a message asks.
-use Rattle.std.specs.Prelude.{◌≡◌, ℕ, List}
+use Rattle.std.specs.Prelude.{◌≡◌, ℕ, ◌<◌, ◌≤◌, List, Option, Some, IfSome}
 use Rattle.iam_names.specs.declared.caller.Caller.{Caller}
 use Rattle.iam_types.specs.declared.ask.Ask.{Ask}
 use Rattle.iam_types.specs.declared.command.Entry.{Entry}
@@ -17,12 +17,20 @@ IsRefusedBy message reply = (error : ErrorReply) × IsAsked message (Refused err
 
 -- it gives a caller and a call
 abbrev pub GivesCall : Message → Type 0
-GivesCall message = (caller : Caller) × (call : Call) × IsAsked message (Given caller call)
+GivesCall message = (caller : Caller) × (floor : Option ℕ) × (call : Call) × IsAsked message (Given caller floor call)
 
--- the caller asks for this read
-abbrev pub AsksRead : Message → Caller → Ask → Type 0
-AsksRead message caller ask = IsAsked message (Given caller (Read ask))
+-- a floor, if one is asked for, isn't above this number
+abbrev pub IsMet : Option ℕ → ℕ → Type 0
+IsMet floor number = IfSome floor (λ least. least ≤ number)
 
--- the entry's caller asks for its command
-abbrev pub AsksWrite : Message → Entry → Type 0
-AsksWrite message entry = IsAsked message (Given entry.caller (Write entry.command))
+-- the caller asks for this read, and its floor is met by this number
+abbrev pub AsksRead : Message → ℕ → Caller → Ask → Type 0
+AsksRead message number caller ask = (floor : Option ℕ) × IsMet floor number × IsAsked message (Given caller floor (Read ask))
+
+-- the entry's caller asks for its command, and its floor is met by this number
+abbrev pub AsksWrite : Message → ℕ → Entry → Type 0
+AsksWrite message number entry = (floor : Option ℕ) × IsMet floor number × IsAsked message (Given entry.caller floor (Write entry.command))
+
+-- it asks for a call, and its floor is above this number
+abbrev pub AsksLater : Message → ℕ → ℕ → Type 0
+AsksLater message number floor = (caller : Caller) × (call : Call) × IsAsked message (Given caller (Some floor) call) × (number < floor)

@@ -4,7 +4,9 @@ pub mod Asks
 pub mod Says
 pub mod Replied
 pub mod Accepted
-pub mod Replying
 pub mod Handled
+pub mod Replying
+pub mod Stops
 pub mod Talks
+pub mod Answering
 pub mod Laws

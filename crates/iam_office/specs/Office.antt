@@ -35,10 +35,11 @@ Leads stands old new P = (tables : Tables) (history : List Entry) → stands old
 
 -- the answer to a floor; nobody else adds to a history that is alone, so what is exact there stands beside it
 abbrev pub FloorTold : {T : Type 0} → Bool → ℕ → Result T FloorStop → Tables → List Entry → List Entry → Type 0
-FloorTold alone floor (Ok reached) tables history more = (floor ≤ Number tables (history ++ more)) × (IsTrue alone → more ≡ [])
+FloorTold alone floor (Ok reached) tables history more =
+    (floor ≤ Number tables (history ++ more)) × (IsTrue alone → (more ≡ []) × (floor ≤ (state tables history).org.changes))
 FloorTold alone floor (Err (Ahead known)) tables history more =
-    (known < floor) × (Number tables history < floor) × (known ≤ Number tables (history ++ more))
-    × (IsTrue alone → (more ≡ []) × (known ≡ Number tables history))
+    (known < floor) × (Number tables history < floor) × (tables.org.changes ≤ known) × (known ≤ Number tables (history ++ more))
+    × (IsTrue alone → (more ≡ []) × (known ≡ (state tables history).org.changes))
 FloorTold alone floor (Err OutOfMemory) tables history more = IsTrue alone → more ≡ []
 
 -- the answer to a read: in the state after the whole history, whose number is given

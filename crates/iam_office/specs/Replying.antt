@@ -5,10 +5,14 @@ use Rattle.iam_text.specs.declared.moment.Moment.{Moment}
 use Rattle.iam_outer.specs.declared.talk.Step.{Step}
 use Rattle.iam_outer.specs.declared.talk.Step.TheVariants.{Plain, Served, NoClock, NoKeeper, NoMemory}
 use Rattle.iam_types.specs.declared.answer.Answer.{Answer}
+use Rattle.iam_types.specs.declared.answer.Answer.TheVariants.{Refused}
+use Rattle.iam_types.specs.declared.refusal.Refusal.TheVariants.{FutureRevision}
 use Rattle.iam_json.specs.declared.details.Details.{Details}
 use Rattle.iam_answer.specs.Answer.{accepts}
 use Rattle.iam_answer.specs.Replies.{plain_reply, keeper_reply, served_reply, no_memory_reply, stored_reply}
 use Rattle.iam_office.specs.Turns.{moments_of, clock_faults_of}
+use Rattle.iam_office.specs.declared.floors.Unreached.{Unreached}
+use Rattle.iam_office.specs.declared.floors.Unreached.TheVariants.{Ahead, OutOfMemory}
 use Rattle.iam_office.specs.declared.office.WriteStop.{WriteStop}
 use Rattle.iam_office.specs.declared.office.WriteStop.TheVariants.{KeeperFault as WriteFailed, OutOfMemory as WriteMemory}
 
@@ -56,6 +60,11 @@ abbrev pub IsStopped : WriteStop → Moment → Step → List ℕ → Type 0
 IsStopped WriteFailed moment said bytes = SaysNoKeeper moment said bytes
 IsStopped (WriteMemory None) moment said bytes = SaysNoMemory (Some moment) said bytes
 IsStopped (WriteMemory (Some number)) moment said bytes = SaysStored number moment said bytes
+
+-- a floor that isn't reached is replied to so
+abbrev pub IsUnreached : Unreached → Moment → Step → List ℕ → Type 0
+IsUnreached (Ahead asked known) moment said bytes = IsShown known moment (Refused (FutureRevision asked known)) said bytes
+IsUnreached OutOfMemory moment said bytes = SaysNoMemory (Some moment) said bytes
 
 -- the step has this moment, so the clock gave it
 pub record IsTimed (moment : Moment) (step : Step) : Type 0 where

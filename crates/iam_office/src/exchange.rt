@@ -1,64 +1,112 @@
-// Reading a line to its end, and writing to it whole.
-ghost use Rattle.std.specs.Prelude.{◌≡◌, ◌<◌, ◌≤◌, ◌+◌, ◌^◌, length, OnOk, OnErr, IfOk, IsErrOf};
-ghost use Rattle.std.specs.Io.{StartsWith, appended_bytes};
-ghost use Rattle.std.specs.Io.KnownBytes.{Appends, Consumes, IsAtEnd};
+// The next message of a line, and writing to a line whole.
+ghost use Rattle.std.specs.Prelude.{◌≡◌, ◌≤◌, [], Err, OnErr, OnOk};
+ghost use Rattle.std.specs.Io.KnownBytes.{Appends};
 ghost use Rattle.iam_outer.specs.Causes.{HasCause, Rose};
+ghost use Rattle.iam_wire.specs.Front.{IsPrefix};
+ghost use Rattle.iam_office.specs.Answering.{IsFed, IsLooked, IsNextOf};
 ghost use Rattle.iam_office.specs.Handled.{AppendsPrefix};
+ghost use Rattle.iam_office.specs.declared.stop.Stop.TheVariants.{AtEnd, Cut};
 
-use iam_outer::{Failed, Line, List, receive, send};
-use std::alloc::Global;
+use crate::stop::Stop;
+use iam_outer::{Failed, Line, receive, send};
+use iam_wire::{Message, Next, Wire, prefixes_are_short};
 
+/// Why no piece was read.
 #[derive(Clone, Copy)]
 pub enum ReadStop {
     Fault,
     OutOfMemory,
 }
 
+/// What one look at a line and what is held of it finds.
+#[derive(Drop)]
+pub enum Looked {
+    Took(Message),
+    Stopped(Stop),
+    /// A piece was read, and may be looked at.
+    Read,
+}
+
 const PIECE: usize = 4096;
 
-// One read, of at most so many bytes. It says how many came.
-fn read_some<L: Line>(line: &mut L, bytes: &mut List<u8>, room: usize) -> Result<usize, ReadStop>
-    requires { 0 < room }
-    ensures front { StartsWith bytes.new bytes.old }
-    ensures moved { OnOk result (Consumes (L.left line.old) (L.left line.new) (appended_bytes bytes.old bytes.new)) }
-    ensures count { IfOk result (λ n. (length bytes.new ≡ length bytes.old + n) × (n ≤ room)) }
-    ensures end { IfOk result (λ n. n ≡ 0 → IsAtEnd (L.left line.new)) }
+// Reads a piece and feeds it to what is held. It says how many bytes came.
+fn read_piece<L: Line>(line: &mut L, wire: &mut Wire) -> Result<usize, ReadStop>
+    ensures fed { IsFed result (L.left line.old) (L.left line.new) wire.old wire.new }
     ensures later { L.read_faults line.old ≤ L.read_faults line.new }
-    ensures cause { IsErrOf result ReadStop.Fault → Rose (L.read_faults line.old) (L.read_faults line.new) }
-    ensures taken { L.taken line.new ≡ L.taken line.old }
-    ensures write_faults { L.write_faults line.new ≡ L.write_faults line.old }
+    ensures cause { result ≡ Err ReadStop.Fault → Rose (L.read_faults line.old) (L.read_faults line.new) }
+    ensures unwritten { (L.taken line.new ≡ L.taken line.old) × (L.write_faults line.new ≡ L.write_faults line.old) }
 {
     let mut buffer = [0; PIECE];
-    let into = &mut buffer[..room.min(PIECE)];
+    let into = &mut buffer[..];
     let count = match receive(line, into) {
         Ok(count) => count,
         Err(_) => return Err(ReadStop::Fault),
     };
-    match bytes.push_all(&buffer[..count]) {
+    match wire.feed(&buffer[..count]) {
         Ok(()) => Ok(count),
         Err(_) => Err(ReadStop::OutOfMemory),
     }
 }
 
-/// Reads to the end, or to the first byte past the limit.
-pub fn read_all<L: Line>(alloc: Global, line: &mut L, limit: usize) -> Result<List<u8>, ReadStop>
-    requires { limit < 2 ^ 32 }
-    ensures moved { IfOk result (λ bytes. Consumes (L.left line.old) (L.left line.new) bytes) }
-    ensures end { IfOk result (λ bytes. (length bytes ≤ limit) → IsAtEnd (L.left line.new)) }
-    ensures size { IfOk result (λ bytes. length bytes ≤ limit + 1) }
-    ensures later { L.read_faults line.old ≤ L.read_faults line.new }
-    ensures cause { IsErrOf result ReadStop.Fault → Rose (L.read_faults line.old) (L.read_faults line.new) }
-    ensures taken { L.taken line.new ≡ L.taken line.old }
-    ensures write_faults { L.write_faults line.new ≡ L.write_faults line.old }
+// What the end of the input is, by what is held.
+fn end_of_input(wire: &Wire) -> Stop
+    ensures end { wire.now ≡ [] → result ≡ AtEnd }
+    ensures rest { (wire.now ≡ [] → ⊥) → result ≡ Cut }
 {
-    let mut bytes = List::new(alloc);
-    while bytes.len() <= limit {
-        let room = limit + 1 - bytes.len();
-        if read_some(line, &mut bytes, room)? == 0 {
-            return Ok(bytes);
+    if wire.is_empty() {
+        Stop::AtEnd
+    } else {
+        Stop::Cut
+    }
+}
+
+// Reads on, where what is held is a proper prefix of a message.
+fn read_on<L: Line>(line: &mut L, wire: &mut Wire) -> Looked
+    requires { IsPrefix wire.old }
+    ensures looked { IsLooked result (L.left line.old) (L.left line.new) wire.old wire.new }
+    ensures later { L.read_faults line.old ≤ L.read_faults line.new }
+    ensures cause { result ≡ Looked.Stopped Stop.ReadFault → Rose (L.read_faults line.old) (L.read_faults line.new) }
+    ensures unwritten { (L.taken line.new ≡ L.taken line.old) × (L.write_faults line.new ≡ L.write_faults line.old) }
+{
+    prefixes_are_short();
+    match read_piece(line, wire) {
+        Ok(0) => Looked::Stopped(end_of_input(wire)),
+        Ok(_) => Looked::Read,
+        Err(ReadStop::Fault) => Looked::Stopped(Stop::ReadFault),
+        Err(ReadStop::OutOfMemory) => Looked::Stopped(Stop::OutOfMemory),
+    }
+}
+
+// Looks at what is held, and reads a piece only where that is a proper prefix of a message.
+fn look<L: Line>(line: &mut L, wire: &mut Wire) -> Looked
+    ensures looked { IsLooked result (L.left line.old) (L.left line.new) wire.old wire.new }
+    ensures later { L.read_faults line.old ≤ L.read_faults line.new }
+    ensures cause { result ≡ Looked.Stopped Stop.ReadFault → Rose (L.read_faults line.old) (L.read_faults line.new) }
+    ensures unwritten { (L.taken line.new ≡ L.taken line.old) × (L.write_faults line.new ≡ L.write_faults line.old) }
+{
+    match wire.next_request() {
+        Next::Message(message) => Looked::Took(message),
+        Next::Need => read_on(line, wire),
+        Next::Fault(fault) => Looked::Stopped(Stop::Fault(fault)),
+        Next::OutOfMemory => Looked::Stopped(Stop::OutOfMemory),
+    }
+}
+
+/// The next message of the line, behind what is held of it, or why there is none. No more is read than up to the piece in which it
+/// ends.
+pub fn next_message<L: Line>(line: &mut L, wire: &mut Wire) -> Result<Message, Stop>
+    ensures next { IsNextOf result (L.left line.old) (L.left line.new) wire.old wire.new }
+    ensures later { L.read_faults line.old ≤ L.read_faults line.new }
+    ensures cause { result ≡ Err Stop.ReadFault → Rose (L.read_faults line.old) (L.read_faults line.new) }
+    ensures unwritten { (L.taken line.new ≡ L.taken line.old) × (L.write_faults line.new ≡ L.write_faults line.old) }
+{
+    'pieces: loop {
+        match look(line, wire) {
+            Looked::Took(message) => return Ok(message),
+            Looked::Stopped(stop) => return Err(stop),
+            Looked::Read => {}
         }
     }
-    Ok(bytes)
 }
 
 /// Writes all the bytes, or the first of them and then fails.

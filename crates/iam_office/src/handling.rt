@@ -1,25 +1,26 @@
 // One message over an office.
-ghost use Rattle.std.specs.Prelude.{◌≡◌, ◌∷◌, [], Some, None};
+ghost use Rattle.std.specs.Prelude.{◌≡◌, ◌∷◌, [], ℕ, Some, None};
+ghost use Rattle.std.specs.declared.option.Option.{Option as Maybe};
 ghost use Rattle.std.specs.Bool.{MatchBool};
 ghost use Rattle.iam_answer.specs.Answer.{accepts};
 ghost use Rattle.iam_json.specs.Refusals.{line_of};
 ghost use Rattle.iam_model.specs.Commands.{IsEntry, IsCommand};
 ghost use Rattle.iam_names.specs.Caller.{IsCaller};
 ghost use Rattle.iam_routes.specs.Asked.{IsAsked};
-ghost use Rattle.iam_routes.specs.declared.given.Asked.{Asked as AnAsking};
-ghost use Rattle.iam_wire.specs.declared.message.Message.{Message as AMessage};
-ghost use Rattle.iam_office.specs.Asks.{AsksRead, AsksWrite};
-ghost use Rattle.iam_office.specs.Handled.{Handled};
-ghost use Rattle.iam_office.specs.Replying.{IsShown, IsStopped, IsTimed, SaysNoKeeper, SaysNoMemory, SaysPlainly, SaysStored, reply_of};
+ghost use Rattle.iam_routes.specs.declared.given.Asked.TheVariants as asking;
+ghost use Rattle.iam_wire.specs.declared.message.Message as wire;
+ghost use Rattle.iam_office.specs.Handled.{Handled, HandledAbove};
+ghost use Rattle.iam_office.specs.Replying.{IsShown, IsStopped, IsTimed, IsUnreached, SaysNoKeeper, SaysNoMemory, SaysPlainly, SaysStored, reply_of};
 ghost use Rattle.iam_office.specs.Turns.{Clocked, Rise, keeper_faults_of};
 
+use crate::floors::{Unreached, reach};
 use crate::office::{Numbered, Office, WriteStop};
 use iam_answer::{keeper_reply, plain_reply, served_reply};
 use iam_json::{Call, Details, ErrorReply};
 use iam_names::Caller;
 use iam_outer::{Clock, Step};
 use iam_routes::{Asked, Routes, asked};
-use iam_tables::{Answer, Ask, Command, Entry};
+use iam_tables::{Answer, Ask, Command, Entry, Refusal};
 use iam_text::{List, Moment, let_go};
 use iam_wire::Message;
 use std::alloc::Global;
@@ -95,7 +96,7 @@ fn no_keeper(alloc: Global, moment: Moment) -> Told
     }
 }
 
-// A read at this moment.
+// A read at this moment, whose floor is met.
 fn read<O: Office>(
     alloc: Global,
     office: &mut O,
@@ -103,7 +104,7 @@ fn read<O: Office>(
     ask: &Ask,
     moment: Moment,
 ) -> Told
-    ensures handled { (message : AMessage) → AsksRead message caller.now ask.now → Handled O.stands O.accepted O.alone office.old office.new message result.step (reply_of result.step result.reply) }
+    ensures handled { (message : wire.Message) (floor : Maybe ℕ) → IsAsked message (asking.Given caller.now floor (Call.Read ask.now)) → HandledAbove O.stands O.accepted O.alone office.old office.new floor message result.step (reply_of result.step result.reply) }
     ensures timed { IsTimed moment result.step }
     ensures faults { Rise (keeper_faults_of result.step) (O.office_faults office.old) (O.office_faults office.new) }
     ensures same { O.same office.old office.new }
@@ -120,25 +121,6 @@ fn read<O: Office>(
             reply: Some(bytes),
         },
         Err(_) => no_memory(Some(moment)),
-    }
-}
-
-// A read: the clock is asked, and then the office.
-fn serve<O: Office, C: Clock>(
-    alloc: Global,
-    office: &mut O,
-    clock: &mut C,
-    caller: &Caller,
-    ask: &Ask,
-) -> Told
-    ensures handled { (message : AMessage) → AsksRead message caller.now ask.now → Handled O.stands O.accepted O.alone office.old office.new message result.step (reply_of result.step result.reply) }
-    ensures clock { Clocked (C.given clock.old) (C.given clock.new) (C.clock_faults clock.old) (C.clock_faults clock.new) (result.step ∷ []) }
-    ensures faults { Rise (keeper_faults_of result.step) (O.office_faults office.old) (O.office_faults office.new) }
-    ensures same { O.same office.old office.new }
-{
-    match clock.now() {
-        Ok(moment) => read(alloc, office, caller, ask, moment),
-        Err(_) => no_clock(alloc),
     }
 }
 
@@ -187,10 +169,67 @@ fn stop(alloc: Global, stop: WriteStop, moment: Moment) -> Told
     }
 }
 
-// A write at its moment.
+// The reply where a floor isn't reached.
+fn unreached(alloc: Global, stop: Unreached, moment: Moment) -> Told
+    ensures { IsUnreached stop moment result.step (reply_of result.step result.reply) }
+{
+    match stop {
+        Unreached::Ahead { asked, known } => show(
+            alloc,
+            Numbered {
+                number: known,
+                value: Answer::Refused(Refusal::FutureRevision { asked, known }),
+            },
+            moment,
+        ),
+        Unreached::OutOfMemory => no_memory(Some(moment)),
+    }
+}
+
+// A read at this moment, behind its floor.
+fn read_above<O: Office>(
+    alloc: Global,
+    office: &mut O,
+    caller: &Caller,
+    floor: Option<u64>,
+    ask: &Ask,
+    moment: Moment,
+) -> Told
+    ensures handled { (message : wire.Message) → IsAsked message (asking.Given caller.now floor (Call.Read ask.now)) → Handled O.stands O.accepted O.alone office.old office.new message result.step (reply_of result.step result.reply) }
+    ensures timed { IsTimed moment result.step }
+    ensures faults { Rise (keeper_faults_of result.step) (O.office_faults office.old) (O.office_faults office.new) }
+    ensures same { O.same office.old office.new }
+{
+    match reach(alloc, office, floor) {
+        Ok(()) => read(alloc, office, caller, ask, moment),
+        Err(stop) => unreached(alloc, stop, moment),
+    }
+}
+
+// A read: the clock is asked, and then the office.
+fn serve<O: Office, C: Clock>(
+    alloc: Global,
+    office: &mut O,
+    clock: &mut C,
+    caller: &Caller,
+    floor: Option<u64>,
+    ask: &Ask,
+) -> Told
+    ensures handled { (message : wire.Message) → IsAsked message (asking.Given caller.now floor (Call.Read ask.now)) → Handled O.stands O.accepted O.alone office.old office.new message result.step (reply_of result.step result.reply) }
+    ensures clock { Clocked (C.given clock.old) (C.given clock.new) (C.clock_faults clock.old) (C.clock_faults clock.new) (result.step ∷ []) }
+    ensures faults { Rise (keeper_faults_of result.step) (O.office_faults office.old) (O.office_faults office.new) }
+    ensures same { O.same office.old office.new }
+{
+    match clock.now() {
+        Ok(moment) => read_above(alloc, office, caller, floor, ask, moment),
+        Err(_) => no_clock(alloc),
+    }
+}
+
+// A write at its moment, whose floor is met.
 fn write<O: Office>(alloc: Global, office: &mut O, entry: Entry) -> Told
     requires { IsEntry entry }
-    ensures handled { (message : AMessage) → AsksWrite message entry → Handled O.stands O.accepted O.alone office.old office.new message result.step (reply_of result.step result.reply) }
+    ensures handled { (message : wire.Message) (floor : Maybe ℕ) → IsAsked message (asking.Given entry.caller floor (Call.Write entry.command)) → HandledAbove O.stands O.accepted O.alone office.old office.new floor message result.step (reply_of result.step result.reply) }
     ensures timed { IsTimed entry.moment result.step }
     ensures faults { Rise (keeper_faults_of result.step) (O.office_faults office.old) (O.office_faults office.new) }
     ensures same { O.same office.old office.new }
@@ -202,25 +241,45 @@ fn write<O: Office>(alloc: Global, office: &mut O, entry: Entry) -> Told
     }
 }
 
+// A write at its moment, behind its floor.
+fn write_above<O: Office>(alloc: Global, office: &mut O, floor: Option<u64>, entry: Entry) -> Told
+    requires { IsEntry entry }
+    ensures handled { (message : wire.Message) → IsAsked message (asking.Given entry.caller floor (Call.Write entry.command)) → Handled O.stands O.accepted O.alone office.old office.new message result.step (reply_of result.step result.reply) }
+    ensures timed { IsTimed entry.moment result.step }
+    ensures faults { Rise (keeper_faults_of result.step) (O.office_faults office.old) (O.office_faults office.new) }
+    ensures same { O.same office.old office.new }
+{
+    match reach(alloc, office, floor) {
+        Ok(()) => write(alloc, office, entry),
+        Err(stop) => {
+            let moment = entry.moment;
+            let_go(entry);
+            unreached(alloc, stop, moment)
+        }
+    }
+}
+
 // A write: the clock is asked, and then the office.
 fn serve_write<O: Office, C: Clock>(
     alloc: Global,
     office: &mut O,
     clock: &mut C,
     caller: Caller,
+    floor: Option<u64>,
     command: Command,
 ) -> Told
     requires caller { IsCaller caller }
     requires command { IsCommand command }
-    ensures handled { (message : AMessage) → IsAsked message (AnAsking.Given caller (Call.Write command)) → Handled O.stands O.accepted O.alone office.old office.new message result.step (reply_of result.step result.reply) }
+    ensures handled { (message : wire.Message) → IsAsked message (asking.Given caller floor (Call.Write command)) → Handled O.stands O.accepted O.alone office.old office.new message result.step (reply_of result.step result.reply) }
     ensures clock { Clocked (C.given clock.old) (C.given clock.new) (C.clock_faults clock.old) (C.clock_faults clock.new) (result.step ∷ []) }
     ensures faults { Rise (keeper_faults_of result.step) (O.office_faults office.old) (O.office_faults office.new) }
     ensures same { O.same office.old office.new }
 {
     match clock.now() {
-        Ok(moment) => write(
+        Ok(moment) => write_above(
             alloc,
             office,
+            floor,
             Entry {
                 caller,
                 moment,
@@ -235,7 +294,7 @@ fn serve_write<O: Office, C: Clock>(
     }
 }
 
-/// One message: what it alone gives, then the clock, then the office, then its reply.
+/// One message: what it alone gives, then the clock, then its floor, then the office, then its reply.
 pub fn handle<O: Office, C: Clock>(
     alloc: Global,
     office: &mut O,
@@ -254,14 +313,20 @@ pub fn handle<O: Office, C: Clock>(
             let_go(error);
             told
         }
-        Ok(Asked::Given { caller, call }) => match call {
+        Ok(
+            Asked::Given {
+                caller,
+                floor,
+                call,
+            },
+        ) => match call {
             Call::Read(ask) => {
-                let told = serve(alloc, office, clock, &caller, &ask);
+                let told = serve(alloc, office, clock, &caller, floor, &ask);
                 let_go(ask);
                 let_go(caller);
                 told
             }
-            Call::Write(command) => serve_write(alloc, office, clock, caller, command),
+            Call::Write(command) => serve_write(alloc, office, clock, caller, floor, command),
         },
         Err(_) => no_memory(None),
     }

@@ -1,5 +1,6 @@
-ghost use Rattle.iam_office.specs.Laws.{DoneWithAll, FaultBehindAll, RepliesFollow};
+ghost use Rattle.iam_office.specs.Laws.{AllAreAnswered, RepliesFollow};
 
+use crate::talking::streams;
 use iam_routes::one_asking;
 
 /// Where nobody else adds to the history, the replies follow from the state at first, the messages and the steps.
@@ -9,9 +10,9 @@ pub fn replies_follow()
     one_asking();
 }
 
-/// A conversation that ended between messages answered all messages of its input, and so did one that ended at a
-/// fault of the frame.
+/// A conversation in which nothing failed answered all messages of its input, up to 10,000, and ended as these and their end say.
 pub fn all_are_answered()
-    ensures done { DoneWithAll }
-    ensures fault { FaultBehindAll }
-{}
+    ensures { AllAreAnswered }
+{
+    streams();
+}

@@ -1,8 +1,8 @@
 // One message, and the writing of its reply.
-ghost use Rattle.std.specs.Prelude.{◌∷◌, []};
-ghost use Rattle.iam_answer.specs.Replies.{no_memory_reply as fixed_reply, stored_reply};
+ghost use Rattle.std.specs.Prelude.{◌≡◌, ◌∷◌, []};
+ghost use Rattle.iam_answer.specs.Replies as replies;
 ghost use Rattle.iam_office.specs.Handled.{Sent, Turned};
-ghost use Rattle.iam_office.specs.Replying.{reply_of as the_reply};
+ghost use Rattle.iam_office.specs.Replying.{reply_of};
 ghost use Rattle.iam_office.specs.Turns.{Clocked, Rise, keeper_faults_of};
 
 use crate::exchange::send_all;
@@ -24,7 +24,8 @@ pub struct Said {
 
 /// Writes bytes, and says whether all were taken.
 pub fn send<L: Line>(line: &mut L, bytes: &[u8]) -> bool
-    ensures { Sent (L.taken line.old) (L.taken line.new) (L.write_faults line.old) (L.write_faults line.new) bytes.now result }
+    ensures sent { Sent (L.taken line.old) (L.taken line.new) (L.write_faults line.old) (L.write_faults line.new) bytes.now result }
+    ensures unread { (L.left line.new ≡ L.left line.old) × (L.read_faults line.new ≡ L.read_faults line.old) }
 {
     match send_all(line, bytes) {
         Ok(()) => true,
@@ -34,14 +35,16 @@ pub fn send<L: Line>(line: &mut L, bytes: &[u8]) -> bool
 
 // Writes the reply that takes no memory, and says whether it was taken whole.
 fn send_no_memory<L: Line>(line: &mut L) -> bool
-    ensures { Sent (L.taken line.old) (L.taken line.new) (L.write_faults line.old) (L.write_faults line.new) fixed_reply result }
+    ensures sent { Sent (L.taken line.old) (L.taken line.new) (L.write_faults line.old) (L.write_faults line.new) replies.no_memory_reply result }
+    ensures unread { (L.left line.new ≡ L.left line.old) × (L.read_faults line.new ≡ L.read_faults line.old) }
 {
     send(line, no_memory_reply())
 }
 
 // Writes that the change of this number is stored, and says whether all was taken.
 fn send_stored<L: Line>(line: &mut L, number: u64) -> bool
-    ensures { Sent (L.taken line.old) (L.taken line.new) (L.write_faults line.old) (L.write_faults line.new) (stored_reply number) result }
+    ensures sent { Sent (L.taken line.old) (L.taken line.new) (L.write_faults line.old) (L.write_faults line.new) (replies.stored_reply number) result }
+    ensures unread { (L.left line.new ≡ L.left line.old) × (L.read_faults line.new ≡ L.read_faults line.old) }
 {
     let mut reply = StoredReply::new();
     send(line, reply.bytes(number))
@@ -49,7 +52,8 @@ fn send_stored<L: Line>(line: &mut L, number: u64) -> bool
 
 // Writes the reply that was made, or the one that takes no memory, and says whether all was taken.
 fn send_reply<L: Line>(line: &mut L, told: &Told) -> bool
-    ensures { Sent (L.taken line.old) (L.taken line.new) (L.write_faults line.old) (L.write_faults line.new) (the_reply told.now.step told.now.reply) result }
+    ensures sent { Sent (L.taken line.old) (L.taken line.new) (L.write_faults line.old) (L.write_faults line.new) (reply_of told.now.step told.now.reply) result }
+    ensures unread { (L.left line.new ≡ L.left line.old) × (L.read_faults line.new ≡ L.read_faults line.old) }
 {
     match (&told.reply, told.step) {
         (Some(bytes), _) => send(line, bytes.as_slice()),
@@ -76,6 +80,7 @@ pub fn turn<O: Office, L: Line, C: Clock>(
     ensures turned { Turned O.stands O.accepted O.alone office.old office.new (L.taken line.old) (L.taken line.new) (L.write_faults line.old) (L.write_faults line.new) message.now result.step result.sent }
     ensures clock { Clocked (C.given clock.old) (C.given clock.new) (C.clock_faults clock.old) (C.clock_faults clock.new) (result.step ∷ []) }
     ensures faults { Rise (keeper_faults_of result.step) (O.office_faults office.old) (O.office_faults office.new) }
+    ensures unread { (L.left line.new ≡ L.left line.old) × (L.read_faults line.new ≡ L.read_faults line.old) }
     ensures same { O.same office.old office.new }
 {
     let told = handle(alloc, office, clock, routes, message);

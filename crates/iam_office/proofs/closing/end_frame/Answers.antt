@@ -1,24 +1,21 @@
-use Rattle.std.proofs.Common.{refl, inl}
-use Rattle.iam_office.proofs.Finishing.{ends_as, frame_ends, frame_without_memory, writes_at}
+use Rattle.std.proofs.Common.{refl}
+use Rattle.iam_office.proofs.Finishing.{frame_ends, frame_without_memory, writes_on}
 use Rattle.iam_office.proofs.closing.end_frame.Goals as goal
 
-pub returns-in_default : goal.returns-in_default
-returns-in_default g c = record {
-  finished = frame_without_memory _ _ _ _ _ _ _ c.out_of_memory.ensures refl;
-  trace = inl refl;
-  writes = writes_at _ _ _ _ _ _ _ refl c.out_of_memory.ensures;
-  clock_fault = ends_as _ _ _ _ _ _ _ _ c.out_of_memory.ensures (λ e. cc e) (λ e. cc e);
-  read_fault = ends_as _ _ _ _ _ _ _ _ c.out_of_memory.ensures (λ e. cc e) (λ e. cc e);
-}
+pub returns-in_default-clause-finished : goal.returns-in_default-clause-finished
+returns-in_default-clause-finished g c = frame_without_memory _ _ _ _ _ _ _ _ c.out_of_memory.ensures.ends refl
 
-pub returns-in_default-push : goal.returns-in_default-push
-returns-in_default-push g c = record {
-  finished = frame_without_memory _ _ _ _ _ _ _ c.out_of_memory-in_default-push.ensures c.in_default-push.ensures.err;
-  trace = inl c.in_default-push.ensures.err;
-  writes = writes_at _ _ _ _ _ _ _ refl c.out_of_memory-in_default-push.ensures;
-  clock_fault = ends_as _ _ _ _ _ _ _ _ c.out_of_memory-in_default-push.ensures (λ e. cc e) (λ e. cc e);
-  read_fault = ends_as _ _ _ _ _ _ _ _ c.out_of_memory-in_default-push.ensures (λ e. cc e) (λ e. cc e);
-}
+pub returns-in_default-clause-writes : goal.returns-in_default-clause-writes
+returns-in_default-clause-writes g c = λ first before. writes_on _ _ _ _ _ _ _ _ refl c.out_of_memory.ensures.ends before
+
+pub returns-in_default-push-clause-finished : goal.returns-in_default-push-clause-finished
+returns-in_default-push-clause-finished g c = frame_without_memory _ _ _ _ _ _ _ _ c.out_of_memory-in_default-push.ensures.ends c.in_default-push.ensures.err
+
+pub returns-in_default-push-clause-writes : goal.returns-in_default-push-clause-writes
+returns-in_default-push-clause-writes g c = λ first before. writes_on _ _ _ _ _ _ _ _ refl c.out_of_memory-in_default-push.ensures.ends before
 
 pub returns-clause-finished : goal.returns-clause-finished
-returns-clause-finished g c = frame_ends _ _ _ _ _ _ _ (rw (c.as_slice.ensures, c.in-Ok.ensures) at c.end_with.ensures) c.in-Ok-push.ensures.ok
+returns-clause-finished g c = frame_ends _ _ _ _ _ _ _ _ (rw (c.as_slice.ensures, c.in-Ok.ensures) at c.end_with.ensures.ends) c.in-Ok-push.ensures.ok
+
+pub returns-clause-writes : goal.returns-clause-writes
+returns-clause-writes g c = λ first before. writes_on _ _ _ _ _ _ _ _ refl c.end_with.ensures.ends before

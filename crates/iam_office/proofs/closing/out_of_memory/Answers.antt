@@ -1,4 +1,4 @@
 use Rattle.iam_office.proofs.closing.out_of_memory.Goals as goal
 
-pub returns : goal.returns
-returns g c = rw c.no_memory_reply.ensures at c.end_with.ensures
+pub returns-clause-ends : goal.returns-clause-ends
+returns-clause-ends g c = rw c.no_memory_reply.ensures at c.end_with.ensures.ends

@@ -11,8 +11,8 @@ use Rattle.iam_office.proofs.handling.handle.Goals as goal
 
 pub serve_write-requires-clause-command : goal.serve_write-requires-clause-command
 serve_write-requires-clause-command g c =
-    let asked = subst (λ call. IsAsked c.args.message.now (Given c.in-Ok-Given.caller call)) c.in-Write.is (subst (IsAsked c.args.message.now) c.in-Ok-Given.field-0-is c.in-Ok-Given.ensures) in
-    (write_is c.args.message.now c.in-Ok-Given.caller _ asked).1
+    let asked = subst (λ call. IsAsked c.args.message.now (Given c.in-Ok-Given.caller c.in-Ok-Given.floor call)) c.in-Write.is (subst (IsAsked c.args.message.now) c.in-Ok-Given.field-0-is c.in-Ok-Given.ensures) in
+    (write_is c.args.message.now c.in-Ok-Given.caller c.in-Ok-Given.floor _ asked).1
 
 pub returns-in-Ok-Refused-clause-handled : goal.returns-in-Ok-Refused-clause-handled
 returns-in-Ok-Refused-clause-handled g c =
@@ -30,11 +30,11 @@ returns-in-Ok-Refused-clause-faults g c = rise_plainly _ _ _ _ _ refl c.refuse-t
 
 pub returns-in-Read-clause-handled : goal.returns-in-Read-clause-handled
 returns-in-Read-clause-handled g c =
-    c.serve-told.ensures.handled c.args.message.now (subst (λ call. IsAsked c.args.message.now (Given c.in-Ok-Given.caller call)) c.in-Read.is (subst (IsAsked c.args.message.now) c.in-Ok-Given.field-0-is c.in-Ok-Given.ensures))
+    c.serve-told.ensures.handled c.args.message.now (subst (λ call. IsAsked c.args.message.now (Given c.in-Ok-Given.caller c.in-Ok-Given.floor call)) c.in-Read.is (subst (IsAsked c.args.message.now) c.in-Ok-Given.field-0-is c.in-Ok-Given.ensures))
 
 pub returns-in-Write-clause-handled : goal.returns-in-Write-clause-handled
 returns-in-Write-clause-handled g c =
-    c.serve_write.ensures.handled c.args.message.now (subst (λ call. IsAsked c.args.message.now (Given c.in-Ok-Given.caller call)) c.in-Write.is (subst (IsAsked c.args.message.now) c.in-Ok-Given.field-0-is c.in-Ok-Given.ensures))
+    c.serve_write.ensures.handled c.args.message.now (subst (λ call. IsAsked c.args.message.now (Given c.in-Ok-Given.caller c.in-Ok-Given.floor call)) c.in-Write.is (subst (IsAsked c.args.message.now) c.in-Ok-Given.field-0-is c.in-Ok-Given.ensures))
 
 pub returns-in-Err-clause-handled : goal.returns-in-Err-clause-handled
 returns-in-Err-clause-handled g c = record {

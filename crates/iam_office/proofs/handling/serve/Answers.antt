@@ -6,14 +6,14 @@ use Rattle.iam_office.proofs.Leading.{leads_here}
 use Rattle.iam_office.proofs.handling.serve.Goals as goal
 
 pub returns-in-Ok-clause-handled : goal.returns-in-Ok-clause-handled
-returns-in-Ok-clause-handled g c = c.read.ensures.handled
+returns-in-Ok-clause-handled g c = c.read_above.ensures.handled
 
 pub returns-in-Ok-clause-clock : goal.returns-in-Ok-clause-clock
-returns-in-Ok-clause-clock g c = clocked_timed _ _ _ _ _ _ c.in-Ok.ensures.given c.in-Ok.ensures.cause.later c.read.ensures.timed
+returns-in-Ok-clause-clock g c = clocked_timed _ _ _ _ _ _ c.in-Ok.ensures.given c.in-Ok.ensures.cause.later c.read_above.ensures.timed
 
 pub returns-in-Err-clause-handled : goal.returns-in-Err-clause-handled
 returns-in-Err-clause-handled g c = λ message asked. record {
-  answers = leads_here g.O.Office.stands _ _ (λ t h. no_clock g.O.Office.alone message _ _ t h (read_gives message c.args.caller.now c.args.ask.now asked) c.no_clock.ensures);
+  answers = leads_here g.O.Office.stands _ _ (λ t h. no_clock g.O.Office.alone message _ _ t h (read_gives message c.args.caller.now c.args.floor c.args.ask.now asked) c.no_clock.ensures);
   count = count_stays _ _ _ refl (none_without_clock message _ _ _ c.no_clock.ensures);
 }
 

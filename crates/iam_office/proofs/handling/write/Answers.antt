@@ -7,10 +7,10 @@ use Rattle.iam_office.proofs.Leading.{leads_as}
 use Rattle.iam_office.proofs.handling.write.Goals as goal
 
 pub returns-in-Ok-clause-handled : goal.returns-in-Ok-clause-handled
-returns-in-Ok-clause-handled g c = λ message asked. record {
-  answers = leads_as g.O.Office.stands _ _ _ _ c.in-Ok.ensures.told (λ t h more told. write_answers g.O.Office.alone message c.args.entry c.in-Ok.answer _ _ t h more asked c.show.ensures told);
-  count = count_rises _ _ _ _ c.in-Ok.ensures.accepted (count_shown message c.args.entry _ _ _ _ asked c.show.ensures);
-}
+returns-in-Ok-clause-handled g c = λ message floor asked. (
+  leads_as g.O.Office.stands _ _ _ _ c.in-Ok.ensures.told (λ t h more told reached. write_answers g.O.Office.alone message c.args.entry floor c.in-Ok.answer _ _ t h more asked reached c.show.ensures told),
+  count_rises _ _ _ _ c.in-Ok.ensures.accepted (count_shown message c.args.entry floor _ _ _ _ asked c.show.ensures),
+)
 
 pub returns-in-Ok-clause-timed : goal.returns-in-Ok-clause-timed
 returns-in-Ok-clause-timed g c = timed_shown _ _ _ _ _ c.show.ensures
@@ -19,10 +19,10 @@ pub returns-in-Ok-clause-faults : goal.returns-in-Ok-clause-faults
 returns-in-Ok-clause-faults g c = rise_shown _ _ _ _ _ _ _ c.show.ensures c.in-Ok.ensures.later
 
 pub returns-in-Err-clause-handled : goal.returns-in-Err-clause-handled
-returns-in-Err-clause-handled g c = λ message asked. record {
-  answers = leads_as g.O.Office.stands _ _ _ _ c.in-Err.ensures.told (λ t h more told. write_stopped g.O.Office.alone message c.args.entry c.in-Err.stopped _ _ t h more asked c.stop.ensures told);
-  count = count_rises _ _ _ _ c.in-Err.ensures.accepted (count_stopped message _ _ _ _ c.stop.ensures);
-}
+returns-in-Err-clause-handled g c = λ message floor asked. (
+  leads_as g.O.Office.stands _ _ _ _ c.in-Err.ensures.told (λ t h more told reached. write_stopped g.O.Office.alone message c.args.entry floor c.in-Err.stopped _ _ t h more asked reached c.stop.ensures told),
+  count_rises _ _ _ _ c.in-Err.ensures.accepted (count_stopped message _ _ _ _ c.stop.ensures),
+)
 
 pub returns-in-Err-clause-timed : goal.returns-in-Err-clause-timed
 returns-in-Err-clause-timed g c = timed_stopped _ _ _ _ c.stop.ensures
