@@ -80,15 +80,15 @@ status_of end.Enough = Enough
 status_of end.OutOfMemory = OutOfMemory
 
 -- a conversation from these tables on, with whose end the run ends; the keeper has these rows then
-abbrev pub TalkedFrom : Tables → Option (List Row) → Option (List ℕ) → Option (List ℕ) → Option (List ℕ) → Status → List Step → Type 0
-TalkedFrom tables rows left before now status trace =
-    (end : TalkEnd) × (status ≡ status_of end) × OfInput left (λ input. Talked (RanFrom tables rows) before now input end trace)
+abbrev pub TalkedFrom : Tables → Option (List Row) → Option (List ℕ) → Option (List ℕ) → Option (List ℕ) → Option (List ℕ) → Status → List Step → Type 0
+TalkedFrom tables rows left later before now status trace =
+    (end : TalkEnd) × (status ≡ status_of end) × OfInput left later (λ read unread. Talked (RanFrom tables rows) before now read unread end trace)
 
 -- a conversation from the tables that were opened, at the moments that the clock gave
 pub record TalkedOpened {L C : Type 0} (opening : Option Opening) (before now : Outside L C) (status : Status) (trace : List Step) : Type 0 where
   pub tables : Tables
   pub opened : IfSome before.rows (λ kept. IsOpenedFrom opening kept tables)
-  pub talked : TalkedFrom tables now.rows before.left before.taken now.taken status trace
+  pub talked : TalkedFrom tables now.rows before.left now.left before.taken now.taken status trace
   pub moments : AppendsMoments before.given now.given (flat_map moments_of trace)
 
 -- ---- a line of words

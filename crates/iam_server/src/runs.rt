@@ -45,7 +45,7 @@ fn talk_over<L: Line, C: Clock, P: Keeper>(
     clock: &mut C,
 ) -> RunEnd
     requires { KeepsTables (P.rows keeper.old) index }
-    ensures talked { TalkedFrom index (P.rows keeper.new) (L.left line.old) (L.taken line.old) (L.taken line.new) result.status result.trace }
+    ensures talked { TalkedFrom index (P.rows keeper.new) (L.left line.old) (L.left line.new) (L.taken line.old) (L.taken line.new) result.status result.trace }
     ensures causes { EndsWithCause result.status (P.keeper_faults keeper.old) (P.keeper_faults keeper.new) (L.read_faults line.old) (L.read_faults line.new) (L.write_faults line.old) (L.write_faults line.new) (C.clock_faults clock.old) (C.clock_faults clock.new) }
     ensures faults { Rise (all_keeper_faults result.trace) (P.keeper_faults keeper.old) (P.keeper_faults keeper.new) }
     ensures clock { Clocked (C.given clock.old) (C.given clock.new) (C.clock_faults clock.old) (C.clock_faults clock.new) result.trace }
@@ -124,7 +124,7 @@ fn carry_out<L: Line, C: Clock, P: Keeper>(
 /// Does what the words say over the line, on the tables of the rows that the keeper has.
 ///
 /// `apply`: where the keeper has no rows, those of the opening are kept first; where rows are there, an opening is passed
-/// over. Then the messages of the line are answered one after another from these tables on, and each accepted change is
+/// over. Then the messages of the line are answered one after another from these tables on, each as soon as it is whole, and each accepted change is
 /// kept before it is answered. `ask`: one line says who may do what; nothing is read and nothing kept.
 pub fn run<L: Line, C: Clock, P: Keeper>(
     alloc: Global,
