@@ -1,9 +1,6 @@
 // What a run that is asked for an access writes. Its input fails at the first read, so a run that reads it doesn't end well.
-use crate::running::{Kept, ORG_ROW, POLICY_ROW, QUIET, Run, keeper, keeps, writes};
-use iam_outer::OutOfMemory;
+use crate::running::{Kept, ORG_ROW, POLICY_ROW, QUIET, Run, Told};
 use iam_server::{LoadFault, Status};
-use std::alloc::Global;
-use std::test::Fail;
 
 const ADA_GETS: [&str; 7] = [
     "ask",
@@ -60,111 +57,73 @@ const ALLOWED: Run = Run {
     words: &ADA_GETS,
     rows: &ROWS,
     failing_read: 1,
-    steps: Some(&[]),
+    line: "ALLOWED organizations/1000 0\n",
+    told: Told::Steps(&[]),
     ..QUIET
 };
 
-// A run, and what it writes, which is cut where the room ends.
-static RUNS: [(Run, &str); 10] = [
-    (ALLOWED, "ALLOWED organizations/1000 0\n"),
-    (
-        Run {
-            words: &BOB_GETS,
-            ..ALLOWED
-        },
-        "NOT_GRANTED\n",
-    ),
-    (
-        Run {
-            words: &ADA_FLIES,
-            ..ALLOWED
-        },
-        "PERMISSION_UNKNOWN\n",
-    ),
+/// Nothing is written.
+const SILENT: Run = Run {
+    line: "",
+    ..ALLOWED
+};
+
+/// An access is told in a line, which is cut where the room ends.
+static RUNS: [Run; 10] = [
+    ALLOWED,
+    Run {
+        words: &BOB_GETS,
+        line: "NOT_GRANTED\n",
+        ..ALLOWED
+    },
+    Run {
+        words: &ADA_FLIES,
+        line: "PERMISSION_UNKNOWN\n",
+        ..ALLOWED
+    },
     // What isn't there is told first.
-    (
-        Run {
-            words: &ADA_FLIES_ELSEWHERE,
-            ..ALLOWED
-        },
-        "NOT_FOUND\n",
-    ),
+    Run {
+        words: &ADA_FLIES_ELSEWHERE,
+        line: "NOT_FOUND\n",
+        ..ALLOWED
+    },
     // There is nothing to load.
-    (
-        Run {
-            rows: &[],
-            kept: &[],
-            status: Status::Rows(LoadFault::Empty),
-            ..ALLOWED
-        },
-        "",
-    ),
+    Run {
+        rows: &[],
+        kept: &[],
+        status: Status::Rows(LoadFault::Empty),
+        ..SILENT
+    },
     // There is no organisation.
-    (
-        Run {
-            rows: &[POLICY_ROW],
-            kept: &[POLICY_ROW],
-            status: Status::Rows(LoadFault::Inconsistent { rule: 1 }),
-            ..ALLOWED
-        },
-        "",
-    ),
-    (
-        Run {
-            failing_keeper: 1,
-            status: Status::Keeper,
-            ..ALLOWED
-        },
-        "",
-    ),
-    (
-        Run {
-            failing_clock: 1,
-            status: Status::ClockFault,
-            ..ALLOWED
-        },
-        "",
-    ),
-    (
-        Run {
-            room: 8,
-            status: Status::WriteFault,
-            ..ALLOWED
-        },
-        "ALLOWED organizations/1000 0\n",
-    ),
+    Run {
+        rows: &[POLICY_ROW],
+        kept: &[POLICY_ROW],
+        status: Status::Rows(LoadFault::Inconsistent { rule: 1 }),
+        ..SILENT
+    },
+    Run {
+        failing_keeper: 1,
+        status: Status::Keeper,
+        ..SILENT
+    },
+    Run {
+        failing_clock: 1,
+        status: Status::ClockFault,
+        ..SILENT
+    },
+    Run {
+        room: 8,
+        status: Status::WriteFault,
+        ..ALLOWED
+    },
     // Nobody is named.
-    (
-        Run {
-            words: &NOBODY_GETS,
-            status: Status::Words,
-            ..ALLOWED
-        },
-        "",
-    ),
+    Run {
+        words: &NOBODY_GETS,
+        status: Status::Words,
+        ..SILENT
+    },
 ];
 
-fn runs() -> &'static [(Run, &'static str)] {
+pub fn runs() -> &'static [Run] {
     &RUNS
-}
-
-fn comes_true(alloc: Global, case: &Run, line: &str) -> Result<bool, OutOfMemory> {
-    let mut keeper = keeper(alloc, case)?;
-    let written = writes(alloc, case, &mut keeper, b"", line.as_bytes())?;
-    Ok(written & keeps(alloc, &mut keeper, case.kept)?)
-}
-
-fn first_wrong(alloc: Global) -> Result<Option<usize>, OutOfMemory> {
-    for (at, (case, line)) in runs().iter().enumerate() {
-        if !comes_true(alloc, case, line)? {
-            return Ok(Some(at));
-        }
-    }
-    Ok(None)
-}
-
-#[test]
-fn an_access_is_told_in_a_line(rt: HostRuntime) -> Result<(), Fail> {
-    assert_eq!(rt; first_wrong(rt.alloc())?, None);
-    Ok(())
 }

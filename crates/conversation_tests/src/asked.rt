@@ -1,4 +1,4 @@
-// Requests and their replies, as bytes.
+// Requests and their replies, as texts.
 use std::alloc::{AllocError, Global};
 use std::fmt::Write;
 
@@ -19,6 +19,17 @@ pub const BOB: &str = "x-iam-caller: user:bob@example.com\r\n";
 pub const NO_CALLER: &str = "x-iam-caller: bob\r\n";
 
 pub const NOBODY: &str = "";
+
+/// Ada, who asks for a revision that is there, for one that isn't, and for what is none.
+pub const ADA_FROM_1: &str = "x-iam-caller: user:ada@example.com\r\nx-iam-min-revision: 1\r\n";
+
+pub const ADA_FROM_5: &str = "x-iam-caller: user:ada@example.com\r\nx-iam-min-revision: 5\r\n";
+
+pub const ADA_FROM_NOTHING: &str =
+    "x-iam-caller: user:ada@example.com\r\nx-iam-min-revision: 0x2\r\n";
+
+/// A text, and how many times it stands.
+pub type Times = (&'static str, usize);
 
 /// What a request asks: method and target, caller, body.
 pub type Asked = (&'static str, &'static str, &'static str);
@@ -52,12 +63,26 @@ pub const BOTH: &str =
 pub const BOTH_SET: &str =
     "{\"bindings\":[{\"members\":[\"user:ada@example.com\"],\"role\":\"roles/resourcemanager.organizationAdmin\"},{\"members\":[\"user:bob@example.com\"],\"role\":\"roles/viewer\"}],\"etag\":\"AAAAAAAAAAI=\",\"version\":1}";
 
-pub fn push_request(
-    text: &mut String,
-    line: &str,
-    caller: &str,
-    body: &str,
-) -> Result<(), AllocError> {
+pub fn push_times(text: &mut String, times: Times) -> Result<(), AllocError> {
+    let (one, count) = times;
+    for _ in 0..count {
+        text.push_str(one)?;
+    }
+    Ok(())
+}
+
+/// The text with what `*` stands for in its place.
+pub fn spelled(alloc: Global, text: &str, many: Times) -> Result<String, AllocError> {
+    let Some((before, behind)) = text.split_once('*') else {
+        return String::from_str(alloc, text);
+    };
+    let mut whole = String::from_str(alloc, before)?;
+    push_times(&mut whole, many)?;
+    whole.push_str(behind)?;
+    Ok(whole)
+}
+
+fn push_request(text: &mut String, line: &str, caller: &str, body: &str) -> Result<(), AllocError> {
     let size = body.len();
     text.push_str(line)?;
     text.push_str(FIELDS)?;
@@ -66,13 +91,8 @@ pub fn push_request(
     text.push_str(body)
 }
 
-/// A reply that the state of this number gave, or that none gave.
-pub fn push_reply(
-    text: &mut String,
-    phrase: &str,
-    number: u64,
-    body: &str,
-) -> Result<(), AllocError> {
+// A reply that the state of this number gave, or that none gave.
+fn push_reply(text: &mut String, phrase: &str, number: u64, body: &str) -> Result<(), AllocError> {
     let size = body.len();
     text.push_str("HTTP/1.1 ")?;
     text.push_str(phrase)?;
@@ -90,19 +110,30 @@ pub fn push_reply(
     text.push_str(body)
 }
 
-/// Requests, one behind the other.
-pub fn requests(alloc: Global, asked: &[Asked]) -> Result<String, AllocError> {
-    let mut text = String::new(alloc);
+/// Requests, one behind the other. In a body `*` stands for `many`.
+pub fn push_requests(
+    alloc: Global,
+    text: &mut String,
+    asked: &[Asked],
+    many: Times,
+) -> Result<(), AllocError> {
     for (line, caller, body) in asked {
-        push_request(&mut text, line, caller, body)?;
+        let body = spelled(alloc, body, many)?;
+        push_request(text, line, caller, body.as_str())?;
     }
-    Ok(text)
+    Ok(())
 }
 
-pub fn replies(alloc: Global, answered: &[Answered]) -> Result<String, AllocError> {
-    let mut text = String::new(alloc);
+/// Replies, one behind the other. In a body `*` stands for `many`.
+pub fn push_replies(
+    alloc: Global,
+    text: &mut String,
+    answered: &[Answered],
+    many: Times,
+) -> Result<(), AllocError> {
     for (phrase, number, body) in answered {
-        push_reply(&mut text, phrase, *number, body)?;
+        let body = spelled(alloc, body, many)?;
+        push_reply(text, phrase, *number, body.as_str())?;
     }
-    Ok(text)
+    Ok(())
 }

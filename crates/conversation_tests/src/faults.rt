@@ -1,10 +1,8 @@
 // Keepers that fail at a call, and sinks that fail inside a reply.
-use crate::asked::{ADA, Answered, Asked, BOB, MOMENT_ALONE, READ, SET, replies};
-use crate::running::{CHANGED_ORG_ROW, HERE, Kept, MOMENT, QUIET, Run, first_wrong};
-use iam_outer::{OutOfMemory, Step};
+use crate::asked::{ADA, Answered, Asked, BOB, MOMENT_ALONE, READ, SET};
+use crate::running::{CHANGED_ORG_ROW, HERE, Kept, MOMENT, QUIET, Run, Told};
+use iam_outer::Step;
 use iam_server::Status;
-use std::alloc::Global;
-use std::test::Fail;
 
 // ---- a keeper that fails
 
@@ -81,7 +79,8 @@ const ACCEPTED: Run = Run {
     ..UNGRANTED
 };
 
-// A call that fails at the opening ends the run. A setting that is refused never shows the keeper's fault.
+/// Only what is accepted meets the keeper: a setting that is refused never shows its fault. A call that fails at the opening
+/// ends the run.
 static FAILING: [Run; 12] = [
     Run {
         failing_keeper: 1,
@@ -98,13 +97,13 @@ static FAILING: [Run; 12] = [
     Run {
         failing_keeper: 3,
         answered: &[MAY_NOT, MAY_NOT, FAILED, SECOND],
-        steps: Some(&[FIRST_SERVED, FIRST_SERVED, NO_KEEPER, SECOND_SERVED]),
+        told: Told::Steps(&[FIRST_SERVED, FIRST_SERVED, NO_KEEPER, SECOND_SERVED]),
         ..UNGRANTED
     },
     Run {
         failing_keeper: 4,
         answered: &[MAY_NOT, MAY_NOT, SECOND, FAILED],
-        steps: Some(&[FIRST_SERVED, FIRST_SERVED, SECOND_SERVED, NO_KEEPER]),
+        told: Told::Steps(&[FIRST_SERVED, FIRST_SERVED, SECOND_SERVED, NO_KEEPER]),
         ..UNGRANTED
     },
     Run {
@@ -122,13 +121,13 @@ static FAILING: [Run; 12] = [
     Run {
         failing_keeper: 3,
         answered: &[MISMATCH, MISMATCH, FAILED, SECOND],
-        steps: Some(&[FIRST_SERVED, FIRST_SERVED, NO_KEEPER, SECOND_SERVED]),
+        told: Told::Steps(&[FIRST_SERVED, FIRST_SERVED, NO_KEEPER, SECOND_SERVED]),
         ..OUTDATED
     },
     Run {
         failing_keeper: 4,
         answered: &[MISMATCH, MISMATCH, SECOND, FAILED],
-        steps: Some(&[FIRST_SERVED, FIRST_SERVED, SECOND_SERVED, NO_KEEPER]),
+        told: Told::Steps(&[FIRST_SERVED, FIRST_SERVED, SECOND_SERVED, NO_KEEPER]),
         ..OUTDATED
     },
     Run {
@@ -146,25 +145,19 @@ static FAILING: [Run; 12] = [
     Run {
         failing_keeper: 3,
         answered: &[FAILED, SECOND],
-        steps: Some(&[NO_KEEPER, SECOND_SERVED]),
+        told: Told::Steps(&[NO_KEEPER, SECOND_SERVED]),
         ..ACCEPTED
     },
     Run {
         failing_keeper: 4,
         answered: &[SECOND, FAILED],
-        steps: Some(&[SECOND_SERVED, NO_KEEPER]),
+        told: Told::Steps(&[SECOND_SERVED, NO_KEEPER]),
         ..ACCEPTED
     },
 ];
 
-fn failing() -> &'static [Run] {
+pub fn failing() -> &'static [Run] {
     &FAILING
-}
-
-#[test]
-fn only_what_is_accepted_meets_the_keeper(rt: HostRuntime) -> Result<(), Fail> {
-    assert_eq!(rt; first_wrong(rt.alloc(), failing())?, None);
-    Ok(())
 }
 
 // ---- a sink that fails
@@ -175,6 +168,9 @@ const FOUND: Answered = (
     "{\"bindings\":[{\"members\":[\"user:ada@example.com\"],\"role\":\"roles/resourcemanager.organizationAdmin\"}],\"etag\":\"AAAAAAAAAAE=\",\"version\":1}",
 );
 
+/// The bytes of that reply.
+const SIZE: usize = 251;
+
 // Three readings of the policy over a sink that takes fewer bytes.
 const READINGS: Run = Run {
     asked: &[(READ, ADA, ""), (READ, ADA, ""), (READ, ADA, "")],
@@ -183,57 +179,79 @@ const READINGS: Run = Run {
     ..QUIET
 };
 
-// What the messages came to where the sink fails inside the first, the second and the third reply.
-static CUTS: [&[Step]; 3] = [
-    &[FIRST_SERVED],
-    &[FIRST_SERVED, FIRST_SERVED],
-    &[FIRST_SERVED, FIRST_SERVED, FIRST_SERVED],
+const IN_FIRST: Run = Run {
+    told: Told::Steps(&[FIRST_SERVED]),
+    ..READINGS
+};
+
+const IN_SECOND: Run = Run {
+    told: Told::Steps(&[FIRST_SERVED, FIRST_SERVED]),
+    ..READINGS
+};
+
+const IN_THIRD: Run = Run {
+    told: Told::Steps(&[FIRST_SERVED, FIRST_SERVED, FIRST_SERVED]),
+    ..READINGS
+};
+
+/// Each reply is cut where the sink fails: where it begins, behind its first byte, in its middle and before its last byte.
+static CUTS: [Run; 13] = [
+    Run {
+        room: 0,
+        ..IN_FIRST
+    },
+    Run {
+        room: 1,
+        ..IN_FIRST
+    },
+    Run {
+        room: SIZE / 2,
+        ..IN_FIRST
+    },
+    Run {
+        room: SIZE - 1,
+        ..IN_FIRST
+    },
+    Run {
+        room: SIZE,
+        ..IN_SECOND
+    },
+    Run {
+        room: SIZE + 1,
+        ..IN_SECOND
+    },
+    Run {
+        room: SIZE + SIZE / 2,
+        ..IN_SECOND
+    },
+    Run {
+        room: 2 * SIZE - 1,
+        ..IN_SECOND
+    },
+    Run {
+        room: 2 * SIZE,
+        ..IN_THIRD
+    },
+    Run {
+        room: 2 * SIZE + 1,
+        ..IN_THIRD
+    },
+    Run {
+        room: 2 * SIZE + SIZE / 2,
+        ..IN_THIRD
+    },
+    Run {
+        room: 3 * SIZE - 1,
+        ..IN_THIRD
+    },
+    // There is room for all three.
+    Run {
+        room: 3 * SIZE,
+        status: Status::Done,
+        ..IN_THIRD
+    },
 ];
 
-fn cuts() -> &'static [&'static [Step]] {
+pub fn cuts() -> &'static [Run] {
     &CUTS
-}
-
-// The sink takes so many bytes: the replies before the last one whole, and the first bytes of that one.
-fn cut_at(room: usize, steps: &'static [Step]) -> Run {
-    Run {
-        room,
-        steps: Some(steps),
-        ..READINGS
-    }
-}
-
-// Whether a reply behind so many bytes is cut where it begins, behind its first byte, in its middle and before its last byte.
-fn is_cut(
-    alloc: Global,
-    before: usize,
-    size: usize,
-    steps: &'static [Step],
-) -> Result<bool, OutOfMemory> {
-    let runs = [
-        cut_at(before, steps),
-        cut_at(before.saturating_add(1), steps),
-        cut_at(before.saturating_add(size / 2), steps),
-        cut_at(before.saturating_add(size.saturating_sub(1)), steps),
-    ];
-    Ok(first_wrong(alloc, &runs)?.is_none())
-}
-
-// The place of the first reply that isn't cut as it should be.
-fn first_not_cut(alloc: Global) -> Result<Option<usize>, OutOfMemory> {
-    let size = replies(alloc, &[FOUND])?.len();
-    let mut before = 0usize;
-    for (at, steps) in cuts().iter().enumerate() {
-        if !is_cut(alloc, before, size, *steps)? {
-            return Ok(Some(at));
-        }
-        before = before.saturating_add(size);
-    }
-    Ok(None)
-}
-
-#[test]
-fn a_reply_is_cut_where_the_sink_fails(rt: HostRuntime) -> Result<(), Fail> {
-    assert_eq!(rt; first_not_cut(rt.alloc())?, None);
-    Ok(())
 }

@@ -1,8 +1,12 @@
 //! Tests of whole runs over memory, which stand on the run, so that nothing is proved again for its tests.
+//!
+//! A run is a row of a table: what it is over, and what it comes to. One test goes through all tables.
 #![tactic(auto)]
 
 #[cfg(test)]
 mod access;
+#[cfg(test)]
+mod all;
 #[cfg(test)]
 mod asked;
 #[cfg(test)]
@@ -14,6 +18,10 @@ mod limits;
 #[cfg(test)]
 mod messages;
 #[cfg(test)]
+mod pieces;
+#[cfg(test)]
 mod running;
 #[cfg(test)]
 mod settings;
+#[cfg(test)]
+mod told;

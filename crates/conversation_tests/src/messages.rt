@@ -1,13 +1,12 @@
 // What the messages of an input are answered.
 use crate::asked::{
-    ADA, Answered, Asked, BOB, BOTH, BOTH_SET, FIRST_ANSWERED, FIRST_ASKED, NO_CALLER, NO_STATE,
-    NOBODY, READ, SET, TEST, push_request, replies,
+    ADA, ADA_FROM_1, ADA_FROM_5, ADA_FROM_NOTHING, Answered, Asked, BOB, BOTH, BOTH_SET,
+    FIRST_ANSWERED, FIRST_ASKED, NO_CALLER, NO_STATE, NOBODY, READ, SET, TEST,
 };
-use crate::running::{HERE, Kept, QUIET, Run, first_wrong, keeper, writes};
+use crate::running::{CHANGED_ORG_ROW, HERE, Kept, QUIET, Run, SET_ROW, first_wrong};
 use iam_outer::OutOfMemory;
 use iam_server::Status;
-use std::alloc::{AllocError, Global};
-use std::test::Fail;
+use std::alloc::Global;
 
 static ASKED: [Asked; 16] = [
     FIRST_ASKED,
@@ -47,6 +46,12 @@ const BAD_CALLER: &str =
 
 const BAD_HEAD: &str =
     "{\"error\":{\"code\":400,\"details\":{},\"message\":\"BAD_HEAD\",\"status\":\"INVALID_ARGUMENT\"}}";
+
+const NEED_LENGTH: &str =
+    "{\"error\":{\"code\":411,\"details\":{},\"message\":\"NEED_LENGTH\",\"status\":\"INVALID_ARGUMENT\"}}";
+
+const TOO_LARGE: &str =
+    "{\"error\":{\"code\":413,\"details\":{\"declared\":1048577,\"limit\":1048576},\"message\":\"BODY_TOO_LARGE\",\"status\":\"INVALID_ARGUMENT\"}}";
 
 const BAD_JSON: &str =
     "{\"error\":{\"code\":400,\"details\":{},\"message\":\"BAD_JSON\",\"status\":\"INVALID_ARGUMENT\"}}";
@@ -168,6 +173,35 @@ static SET_ANSWERED: [Answered; 8] = [
     ),
 ];
 
+// A setting, and floors behind it: one that is met, one above the state, before which nothing but the message is refused, and none.
+static FLOORS: [Asked; 6] = [
+    (SET, ADA_FROM_1, BOTH),
+    (READ, ADA_FROM_1, ""),
+    (READ, ADA_FROM_5, ""),
+    (SET, ADA_FROM_5, BOTH),
+    ("POST /v3/organizations/999:getIamPolicy", ADA_FROM_5, ""),
+    (READ, ADA_FROM_NOTHING, ""),
+];
+
+const AHEAD: Answered = (
+    "400 Bad Request",
+    2,
+    "{\"error\":{\"code\":400,\"details\":{\"asked\":5,\"known\":2},\"message\":\"FUTURE_REVISION\",\"status\":\"INVALID_ARGUMENT\"}}",
+);
+
+static FLOORS_ANSWERED: [Answered; 6] = [
+    ("200 OK", 2, BOTH_SET),
+    ("200 OK", 2, BOTH_SET),
+    AHEAD,
+    AHEAD,
+    AHEAD,
+    (
+        "400 Bad Request",
+        NO_STATE,
+        "{\"error\":{\"code\":400,\"details\":{\"path\":\"x-iam-min-revision\"},\"message\":\"BAD_FIELD\",\"status\":\"INVALID_ARGUMENT\"}}",
+    ),
+];
+
 // The rows behind the settings.
 const SET_ROWS: [Kept; 2] = [
     (
@@ -199,6 +233,14 @@ fn set_answered() -> &'static [Answered] {
     &SET_ANSWERED
 }
 
+fn floors() -> &'static [Asked] {
+    &FLOORS
+}
+
+fn floors_answered() -> &'static [Answered] {
+    &FLOORS_ANSWERED
+}
+
 fn run_of(asked: &'static [Asked], answered: &'static [Answered]) -> Run {
     Run {
         asked,
@@ -207,25 +249,23 @@ fn run_of(asked: &'static [Asked], answered: &'static [Answered]) -> Run {
     }
 }
 
-// Inputs of many messages.
-fn first_wrong_of_many(alloc: Global) -> Result<Option<usize>, OutOfMemory> {
+/// The place of the first run over many messages that doesn't come to what it should.
+pub fn first_wrong_of_many(alloc: Global) -> Result<Option<usize>, OutOfMemory> {
     let runs = [
         run_of(asked(), answered()),
         Run {
             kept: &SET_ROWS,
             ..run_of(settings(), set_answered())
         },
-        // A rest is refused.
+        // The input ends inside a message.
         Run {
-            rest: b"POST /v3/organizations/1000:getIamPolicy HTTP/1.1\r\n",
-            status: Status::BadFrame,
-            rest_answered: &[("400 Bad Request", NO_STATE, BAD_HEAD)],
+            rest: ("POST /v3/organizations/1000:getIamPolicy HTTP/1.1\r\n", 1),
+            status: Status::Cut,
             ..run_of(asked(), answered())
         },
         Run {
-            failing_read: 2,
-            status: Status::ReadFault,
-            ..run_of(asked(), &[])
+            kept: &[SET_ROW, CHANGED_ORG_ROW],
+            ..run_of(floors(), floors_answered())
         },
         Run {
             room: 8,
@@ -235,81 +275,110 @@ fn first_wrong_of_many(alloc: Global) -> Result<Option<usize>, OutOfMemory> {
         Run {
             failing_clock: 1,
             status: Status::ClockFault,
-            rest_answered: &[("503 Service Unavailable", NO_STATE, CLOCK_FAULT)],
-            ..run_of(asked(), &[])
+            ..run_of(
+                asked(),
+                &[("503 Service Unavailable", NO_STATE, CLOCK_FAULT)],
+            )
         },
     ];
     first_wrong(alloc, &runs)
 }
 
-static FEW: [Run; 3] = [
+static FEW: [Run; 8] = [
+    // No byte can be read.
+    Run {
+        asked: &[FIRST_ASKED],
+        failing_read: 1,
+        status: Status::ReadFault,
+        ..QUIET
+    },
+    // The message is answered before the second read, which fails.
+    Run {
+        asked: &[FIRST_ASKED],
+        failing_read: 2,
+        status: Status::ReadFault,
+        answered: &[FIRST_ANSWERED],
+        ..QUIET
+    },
+    // A chunked body, and one that is too large.
+    Run {
+        rest: (
+            "POST /v3/organizations/1000:getIamPolicy HTTP/1.1\r\nHost: a\r\nTransfer-Encoding: chunked\r\n\r\n",
+            1,
+        ),
+        status: Status::BadFrame,
+        rest_answered: (&[("411 Length Required", NO_STATE, NEED_LENGTH)], 1),
+        ..QUIET
+    },
+    Run {
+        asked: &[FIRST_ASKED],
+        answered: &[FIRST_ANSWERED],
+        rest: (
+            "POST /v3/organizations/1000:getIamPolicy HTTP/1.1\r\nHost: a\r\nContent-Length: 1048577\r\n\r\n",
+            1,
+        ),
+        status: Status::BadFrame,
+        rest_answered: (&[("413 Content Too Large", NO_STATE, TOO_LARGE)], 1),
+        ..QUIET
+    },
+    // What follows a last message isn't looked at.
+    Run {
+        rest: (
+            "POST /v3/organizations/1000:getIamPolicy HTTP/1.1\r\nHost: a\r\nConnection: Close\r\nContent-Length: 1\r\n\r\n[(",
+            1,
+        ),
+        rest_answered: (&[("400 Bad Request", NO_STATE, BAD_JSON)], 1),
+        ..QUIET
+    },
     // Two hosts are no message.
     Run {
-        rest: b"POST /v3/organizations/1000:getIamPolicy HTTP/1.1\r\nHost: a\r\nHost: b\r\n\r\n",
+        rest: (
+            "POST /v3/organizations/1000:getIamPolicy HTTP/1.1\r\nHost: a\r\nHost: b\r\n\r\n",
+            1,
+        ),
         status: Status::BadFrame,
-        rest_answered: &[("400 Bad Request", NO_STATE, BAD_HEAD)],
+        rest_answered: (&[("400 Bad Request", NO_STATE, BAD_HEAD)], 1),
         ..QUIET
     },
     // Bytes that are no text are no body.
     Run {
-        rest: b"POST /v3/organizations/1000:getIamPolicy HTTP/1.1\r\nHost: a\r\nContent-Length: 2\r\n\r\n\xff\xfe",
-        rest_answered: &[("400 Bad Request", NO_STATE, BAD_JSON)],
+        rest: (
+            "POST /v3/organizations/1000:getIamPolicy HTTP/1.1\r\nHost: a\r\nContent-Length: 2\r\n\r\n",
+            1,
+        ),
+        no_text: 2,
+        rest_answered: (&[("400 Bad Request", NO_STATE, BAD_JSON)], 1),
         ..QUIET
     },
     // An empty input has no reply.
     QUIET,
 ];
 
-fn few() -> &'static [Run] {
+pub fn few() -> &'static [Run] {
     &FEW
 }
 
-#[test]
-fn each_message_is_answered(rt: HostRuntime) -> Result<(), Fail> {
-    assert_eq!(rt; first_wrong_of_many(rt.alloc())?, None);
-    assert_eq!(rt; first_wrong(rt.alloc(), few())?, None);
-    Ok(())
-}
+const TESTED: Run = Run {
+    many: (",\"storage.objects.get\"", 99),
+    asked: &[(TEST, NOBODY, "{\"permissions\":[\"storage.objects.get\"*]}")],
+    answered: &[("200 OK", 1, "{\"permissions\":[]}")],
+    ..QUIET
+};
 
-// A test of so many permissions.
-fn test_of(alloc: Global, count: usize) -> Result<String, AllocError> {
-    let mut body = String::from_str(alloc, "{\"permissions\":[\"storage.objects.get\"")?;
-    for _ in 1..count {
-        body.push_str(",\"storage.objects.get\"")?;
-    }
-    body.push_str("]}")?;
-    let mut text = String::new(alloc);
-    push_request(&mut text, TEST, NOBODY, body.as_str())?;
-    Ok(text)
-}
-
-// The replies to a test of so many and to one of one more.
-const MOST_ANSWERED: [Answered; 2] = [
-    ("200 OK", 1, "{\"permissions\":[]}"),
-    (
-        "429 Too Many Requests",
-        1,
-        "{\"error\":{\"code\":429,\"details\":{\"counted\":101,\"limit\":100,\"which\":\"PERMISSIONS_ASKED\"},\"message\":\"LIMIT\",\"status\":\"RESOURCE_EXHAUSTED\"}}",
-    ),
+/// A hundred permissions are the most that a test may have.
+static TESTS: [Run; 2] = [
+    TESTED,
+    Run {
+        many: (",\"storage.objects.get\"", 100),
+        answered: &[(
+            "429 Too Many Requests",
+            1,
+            "{\"error\":{\"code\":429,\"details\":{\"counted\":101,\"limit\":100,\"which\":\"PERMISSIONS_ASKED\"},\"message\":\"LIMIT\",\"status\":\"RESOURCE_EXHAUSTED\"}}",
+        )],
+        ..TESTED
+    },
 ];
 
-// A hundred are answered, and one more are refused.
-fn keeps_limit(alloc: Global) -> Result<bool, OutOfMemory> {
-    let mut input = test_of(alloc, 100)?;
-    input.push_str(test_of(alloc, 101)?.as_str())?;
-    let wanted = replies(alloc, &MOST_ANSWERED)?;
-    let mut keeper = keeper(alloc, &QUIET)?;
-    writes(
-        alloc,
-        &QUIET,
-        &mut keeper,
-        input.as_bytes(),
-        wanted.as_bytes(),
-    )
-}
-
-#[test]
-fn a_hundred_permissions_are_the_most(rt: HostRuntime) -> Result<(), Fail> {
-    assert!(rt; keeps_limit(rt.alloc())?);
-    Ok(())
+pub fn tests() -> &'static [Run] {
+    &TESTS
 }

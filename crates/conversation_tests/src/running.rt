@@ -1,15 +1,15 @@
 // One run over memory.
 ghost use Rattle.std.specs.Prelude.{◌≡◌, IfOk};
 
-use crate::asked::{Answered, Asked, replies, requests};
+use crate::asked::{Answered, Asked, Times, push_replies, push_requests, push_times, spelled};
 use iam_outer::{
     Keeper, List, MemoryClock, MemoryKeeper, MemorySink, MemorySource, Moment, OutOfMemory, Pair,
     Row, Step, Text, Zones,
 };
 use iam_server::{RunEnd, Status, run};
 use iam_tables::Catalogue;
-use std::alloc::Global;
-use std::test::Fail;
+use iam_text::let_go;
+use std::alloc::{AllocError, Global};
 
 pub const WORDS: [&str; 9] = [
     "apply",
@@ -55,23 +55,35 @@ pub const SET_ROW: Kept = (
     "{\"bindings\":[{\"members\":[\"user:ada@example.com\"],\"role\":\"roles/resourcemanager.organizationAdmin\"},{\"members\":[\"user:bob@example.com\"],\"role\":\"roles/viewer\"}],\"set\":2}",
 );
 
-/// A run: its words, the keeper's rows, what is asked and the bytes behind it, the room of the sink, and which call
-/// fails of each object, from 1; and then how it ends, the replies, and that to the bytes behind, all cut where the room ends,
-/// what the messages came to, where that is looked at, and the rows that are kept.
+/// What is looked at of what the messages came to.
+#[derive(Clone, Copy)]
+pub enum Told {
+    Nothing,
+    Count(usize),
+    Steps(&'static [Step]),
+}
+
+/// A run: its words, the keeper's rows, what is asked, the text behind it, and how many bytes 255 stand behind that; the room
+/// of the sink, and which call fails of each object, from 1. And then how it ends, the line that it writes, the replies, and
+/// those to the text behind, so many times, all cut where the room ends; what the messages came to; and the rows that are kept.
+/// In bodies `*` stands for `many`.
 #[derive(Clone, Copy)]
 pub struct Run {
     pub words: &'static [&'static str],
     pub rows: &'static [Kept],
+    pub many: Times,
     pub asked: &'static [Asked],
-    pub rest: &'static [u8],
+    pub rest: Times,
+    pub no_text: usize,
     pub room: usize,
     pub failing_read: u64,
     pub failing_clock: u64,
     pub failing_keeper: u64,
     pub status: Status,
+    pub line: &'static str,
     pub answered: &'static [Answered],
-    pub rest_answered: &'static [Answered],
-    pub steps: Option<&'static [Step]>,
+    pub rest_answered: (&'static [Answered], usize),
+    pub told: Told,
     pub kept: &'static [Kept],
 }
 
@@ -79,20 +91,23 @@ pub struct Run {
 pub const QUIET: Run = Run {
     words: &WORDS,
     rows: &[],
+    many: ("", 0),
     asked: &[],
-    rest: &[],
-    room: 10_000,
+    rest: ("", 0),
+    no_text: 0,
+    room: 2_000_000,
     failing_read: 0,
     failing_clock: 0,
     failing_keeper: 0,
     status: Status::Done,
+    line: "",
     answered: &[],
-    rest_answered: &[],
-    steps: None,
+    rest_answered: (&[], 0),
+    told: Told::Nothing,
     kept: &[POLICY_ROW, ORG_ROW],
 };
 
-pub fn list<T: Copy>(alloc: Global, values: &[T]) -> Result<List<T>, OutOfMemory>
+fn list<T: Copy>(alloc: Global, values: &[T]) -> Result<List<T>, OutOfMemory>
     ensures { IfOk result (λ list. list ≡ values.now) }
 {
     let mut list = List::new(alloc);
@@ -100,7 +115,7 @@ pub fn list<T: Copy>(alloc: Global, values: &[T]) -> Result<List<T>, OutOfMemory
     Ok(list)
 }
 
-fn words(alloc: Global, texts: &[&str]) -> Result<List<Text>, OutOfMemory> {
+fn words_of(alloc: Global, texts: &[&str]) -> Result<List<Text>, OutOfMemory> {
     let mut words = List::new(alloc);
     for text in texts {
         words.push(Text::of(alloc, text)?)?;
@@ -108,136 +123,145 @@ fn words(alloc: Global, texts: &[&str]) -> Result<List<Text>, OutOfMemory> {
     Ok(words)
 }
 
-fn rows_of(alloc: Global, rows: &[Kept]) -> Result<List<Row>, OutOfMemory> {
-    let mut list = List::new(alloc);
-    for (part, name, body) in rows {
-        list.push(Row {
-            part: Text::of(alloc, part)?,
-            name: Text::of(alloc, name)?,
-            body: Text::of(alloc, body)?,
-        })?;
+fn row_of(alloc: Global, kept: &Kept, many: Times) -> Result<Row, OutOfMemory> {
+    let (part, name, body) = kept;
+    let body = Text::from(spelled(alloc, body, many)?);
+    Ok(Row {
+        part: Text::of(alloc, part)?,
+        name: Text::of(alloc, name)?,
+        body,
+    })
+}
+
+fn rows_of(alloc: Global, kept: &[Kept], many: Times) -> Result<List<Row>, OutOfMemory> {
+    let mut rows = List::new(alloc);
+    for row in kept {
+        rows.push(row_of(alloc, row, many)?)?;
     }
-    Ok(list)
+    Ok(rows)
+}
+
+fn input_text(alloc: Global, case: &Run) -> Result<String, AllocError> {
+    let mut text = String::new(alloc);
+    push_requests(alloc, &mut text, case.asked, case.many)?;
+    push_times(&mut text, case.rest)?;
+    Ok(text)
+}
+
+fn input_of(alloc: Global, case: &Run) -> Result<List<u8>, OutOfMemory> {
+    let text = input_text(alloc, case)?;
+    let mut input = list(alloc, text.as_bytes())?;
+    for _ in 0..case.no_text {
+        input.push(255)?;
+    }
+    Ok(input)
+}
+
+fn output_of(alloc: Global, case: &Run) -> Result<String, AllocError> {
+    let mut text = String::from_str(alloc, case.line)?;
+    push_replies(alloc, &mut text, case.answered, case.many)?;
+    let (last, times) = case.rest_answered;
+    for _ in 0..times {
+        push_replies(alloc, &mut text, last, case.many)?;
+    }
+    Ok(text)
 }
 
 type InMemory = Pair<MemorySource, MemorySink>;
 
-fn line(alloc: Global, case: &Run, input: &[u8]) -> Result<InMemory, OutOfMemory> {
-    let source = MemorySource::new(list(alloc, input)?, list(alloc, &[case.failing_read])?);
+fn line_of(alloc: Global, case: &Run) -> Result<InMemory, OutOfMemory> {
+    let input = input_of(alloc, case)?;
+    let source = MemorySource::new(input, list(alloc, &[case.failing_read])?);
     let sink = MemorySink::new(alloc, case.room, List::new(alloc))?;
     Ok(Pair::new(source, sink))
 }
 
-fn clock(alloc: Global, case: &Run) -> Result<MemoryClock, OutOfMemory> {
+fn clock_of(alloc: Global, case: &Run) -> Result<MemoryClock, OutOfMemory> {
     let moments = list(alloc, &[MOMENT])?;
     Ok(MemoryClock::new(moments, list(alloc, &[case.failing_clock])?))
 }
 
-/// The keeper that a run has.
-pub fn keeper(alloc: Global, case: &Run) -> Result<MemoryKeeper, OutOfMemory> {
-    let rows = rows_of(alloc, case.rows)?;
+fn keeper_of(alloc: Global, case: &Run) -> Result<MemoryKeeper, OutOfMemory> {
+    let rows = rows_of(alloc, case.rows, case.many)?;
     Ok(MemoryKeeper::new(alloc, rows, list(alloc, &[case.failing_keeper])?))
 }
 
-// The words of a run, its line and its clock.
+/// The words of a run, and what it stands on.
 #[derive(Drop)]
-struct Outside {
-    words: List<Text>,
+pub struct Outside {
+    pub words: List<Text>,
     line: InMemory,
-    clock: MemoryClock,
+    pub clock: MemoryClock,
+    pub keeper: MemoryKeeper,
 }
 
-fn made(alloc: Global, case: &Run, input: &[u8]) -> Result<Outside, OutOfMemory> {
+pub fn outside_of(alloc: Global, case: &Run) -> Result<Outside, OutOfMemory> {
     Ok(Outside {
-        words: words(alloc, case.words)?,
-        line: line(alloc, case, input)?,
-        clock: clock(alloc, case)?,
+        words: words_of(alloc, case.words)?,
+        line: line_of(alloc, case)?,
+        clock: clock_of(alloc, case)?,
+        keeper: keeper_of(alloc, case)?,
     })
 }
 
-// A call of its own, so that what it promises is not carried along by the rest.
-fn ran(
-    alloc: Global,
-    outside: &mut Outside,
-    keeper: &mut MemoryKeeper,
-    catalogue: Catalogue,
-) -> RunEnd {
-    run(
+/// The end of the run. A call of its own, so that what `run` promises is not carried along by the rest.
+pub fn end_of(alloc: Global, outside: &mut Outside) -> Result<RunEnd, OutOfMemory> {
+    let catalogue = Catalogue::built_in(alloc)?;
+    Ok(run(
         alloc,
         outside.words.as_slice(),
         &mut outside.line,
         &mut outside.clock,
-        keeper,
+        &mut outside.keeper,
         catalogue,
         Zones::none(alloc),
-    )
+    ))
 }
 
-/// What a run over this input ends with, and what the sink took.
-pub fn run_over(
-    alloc: Global,
-    case: &Run,
-    keeper: &mut MemoryKeeper,
-    input: &[u8],
-) -> Result<(RunEnd, List<u8>), OutOfMemory> {
-    let catalogue = Catalogue::built_in(alloc)?;
-    let mut outside = made(alloc, case, input)?;
-    let end = ran(alloc, &mut outside, keeper, catalogue);
-    let taken = list(alloc, outside.line.sink.taken())?;
-    Ok((end, taken))
+fn is_told(told: Told, trace: &[Step]) -> bool {
+    match told {
+        Told::Nothing => true,
+        Told::Count(count) => trace.len() == count,
+        Told::Steps(steps) => trace == steps,
+    }
 }
 
-fn has_steps(end: &RunEnd, steps: Option<&[Step]>) -> bool {
-    steps.is_none_or(|steps| end.trace.as_slice() == steps)
+fn ends_so(alloc: Global, case: &Run, outside: &mut Outside) -> Result<bool, OutOfMemory> {
+    let end = end_of(alloc, outside)?;
+    Ok(end.status == case.status && is_told(case.told, end.trace.as_slice()))
 }
 
-/// Whether a run over this input ends as it should, and writes these bytes, or what the sink has room for.
-pub fn writes(
-    alloc: Global,
-    case: &Run,
-    keeper: &mut MemoryKeeper,
-    input: &[u8],
-    wanted: &[u8],
-) -> Result<bool, OutOfMemory> {
-    let (end, taken) = run_over(alloc, case, keeper, input)?;
-    let size = wanted.len().min(case.room);
-    Ok(
-        end.status == case.status
-            && has_steps(&end, case.steps)
-            && taken.as_slice() == &wanted[..size],
-    )
+// Whether these bytes are what the run writes, or what the sink has room for.
+fn are_written(alloc: Global, case: &Run, taken: &[u8]) -> Result<bool, OutOfMemory> {
+    let output = output_of(alloc, case)?;
+    let bytes = output.as_bytes();
+    let size = bytes.len().min(case.room);
+    Ok(taken == &bytes[..size])
 }
 
-fn input_of(alloc: Global, case: &Run) -> Result<List<u8>, OutOfMemory> {
-    let mut input = list(alloc, requests(alloc, case.asked)?.as_bytes())?;
-    input.push_all(case.rest)?;
-    Ok(input)
+fn has_rows(keeper: &mut MemoryKeeper, wanted: &[Row]) -> bool {
+    match keeper.load() {
+        Ok(rows) => rows.as_slice() == wanted,
+        Err(_) => false,
+    }
 }
 
-fn output_of(alloc: Global, case: &Run) -> Result<List<u8>, OutOfMemory> {
-    let mut output = list(alloc, replies(alloc, case.answered)?.as_bytes())?;
-    output.push_all(replies(alloc, case.rest_answered)?.as_bytes())?;
-    Ok(output)
+fn keeps(alloc: Global, case: &Run, keeper: &mut MemoryKeeper) -> Result<bool, OutOfMemory> {
+    let wanted = rows_of(alloc, case.kept, case.many)?;
+    Ok(has_rows(keeper, wanted.as_slice()))
 }
 
-/// Whether the keeper has these rows.
-pub fn keeps(alloc: Global, keeper: &mut MemoryKeeper, kept: &[Kept]) -> Result<bool, OutOfMemory> {
-    let wanted = rows_of(alloc, kept)?;
-    Ok(keeper.load() == Ok(wanted))
+fn is_right(alloc: Global, case: &Run, outside: &mut Outside) -> Result<bool, OutOfMemory> {
+    let ended = ends_so(alloc, case, outside)?;
+    let written = are_written(alloc, case, outside.line.sink.taken())?;
+    Ok(ended & written & keeps(alloc, case, &mut outside.keeper)?)
 }
 
 fn comes_true(alloc: Global, case: &Run) -> Result<bool, OutOfMemory> {
-    let input = input_of(alloc, case)?;
-    let output = output_of(alloc, case)?;
-    let mut keeper = keeper(alloc, case)?;
-    let written = writes(
-        alloc,
-        case,
-        &mut keeper,
-        input.as_slice(),
-        output.as_slice(),
-    )?;
-    Ok(written & keeps(alloc, &mut keeper, case.kept)?)
+    let mut outside = outside_of(alloc, case)?;
+    let right = is_right(alloc, case, &mut outside);
+    let_go(outside);
+    right
 }
 
 /// The place of the first run that doesn't come to what it should.

@@ -22,6 +22,8 @@ type Request = (&'static str, &'static str, Header, &'static str);
 
 const ADA: Header = Header::One("user:ada@example.com");
 
+const BAD: Header = Header::One("bob");
+
 const TEST: &str = "/v3/organizations/1000:testIamPermissions";
 
 const READ: &str = "/v3/organizations/1000:getIamPolicy";
@@ -30,9 +32,15 @@ const SET: &str = "/v3/organizations/1000:setIamPolicy";
 
 const TWO: &str = "{\"permissions\":[\"a.b.c\",\"d.e.f\"]}";
 
-/// Requests, and what is asked by each: the number of its refusal and the path of a bad member, or its caller, what it
-/// wants of which node, and what it gives as an answer would show it. A setting without an etag overwrites.
-static CASES: [(Request, &str); 18] = [
+const TESTED: &str =
+    r#"user:ada@example.com tests organizations/1000 {"permissions":["a.b.c","d.e.f"]}"#;
+
+/// A request, and what is asked by it: the number of its refusal and the path of a bad member, or its caller, what it wants of
+/// which node, and what it gives as an answer would show it. A setting without an etag overwrites.
+type Case = (Request, &'static str);
+
+// The order of refusals.
+static ORDER: [Case; 18] = [
     (
         ("POST", TEST, ADA, TWO),
         r#"user:ada@example.com tests organizations/1000 {"permissions":["a.b.c","d.e.f"]}"#,
@@ -95,132 +103,411 @@ static CASES: [(Request, &str); 18] = [
     ),
 ];
 
-/// Targets, bodies, and what these ask for.
-static BODIES: [(&str, &str, &str); 17] = [
+// Bodies.
+static BODIES: [Case; 17] = [
     (
-        TEST,
-        r#"{"permissions":[]}"#,
+        ("POST", TEST, ADA, r#"{"permissions":[]}"#),
         r#"user:ada@example.com tests organizations/1000 {"permissions":[]}"#,
     ),
     (
-        TEST,
-        r#"{"permissions":["a.b.c","d.e.f"],"more":0}"#,
+        (
+            "POST",
+            TEST,
+            ADA,
+            r#"{"permissions":["a.b.c","d.e.f"],"more":0}"#,
+        ),
         r#"user:ada@example.com tests organizations/1000 {"permissions":["a.b.c","d.e.f"]}"#,
     ),
-    (TEST, r#"{"permissions":["a.b.c","a"]}"#, "3 permissions[1]"),
     (
-        READ,
-        r#"{"options":null}"#,
+        ("POST", TEST, ADA, r#"{"permissions":["a.b.c","a"]}"#),
+        "3 permissions[1]",
+    ),
+    (
+        ("POST", READ, ADA, r#"{"options":null}"#),
         r#"user:ada@example.com reads organizations/1000 {"bindings":[],"etag":"AAAAAAAAAAA=","version":0}"#,
     ),
     (
-        READ,
-        r#"{"options":{"requestedPolicyVersion":3}}"#,
+        (
+            "POST",
+            READ,
+            ADA,
+            r#"{"options":{"requestedPolicyVersion":3}}"#,
+        ),
         r#"user:ada@example.com reads organizations/1000 {"bindings":[],"etag":"AAAAAAAAAAA=","version":3}"#,
     ),
-    (READ, r#"{"options":[]}"#, "3 options"),
+    (("POST", READ, ADA, r#"{"options":[]}"#), "3 options"),
     (
-        READ,
-        r#"{"options":{"requestedPolicyVersion":"3"}}"#,
+        (
+            "POST",
+            READ,
+            ADA,
+            r#"{"options":{"requestedPolicyVersion":"3"}}"#,
+        ),
         "3 options.requestedPolicyVersion",
     ),
     (
-        SET,
-        r#"{"policy":{"auditConfigs":[],"bindings":[{"members":["user:bob@example.com"],"role":"roles/viewer"}],"etag":"AAAAAAAAAAE=","version":1}}"#,
+        (
+            "POST",
+            SET,
+            ADA,
+            r#"{"policy":{"auditConfigs":[],"bindings":[{"members":["user:bob@example.com"],"role":"roles/viewer"}],"etag":"AAAAAAAAAAE=","version":1}}"#,
+        ),
         r#"user:ada@example.com sets organizations/1000 {"bindings":[{"members":["user:bob@example.com"],"role":"roles/viewer"}],"etag":"AAAAAAAAAAE=","version":1}"#,
     ),
-    (SET, r#"{"policy":0}"#, "3 policy"),
-    (SET, r#"{"policy":{"version":-1}}"#, "3 policy.version"),
-    (SET, r#"{"policy":{"etag":""}}"#, "3 policy.etag"),
+    (("POST", SET, ADA, r#"{"policy":0}"#), "3 policy"),
     (
-        SET,
-        r#"{"policy":{"auditConfigs":[{}]}}"#,
-        "3 policy.auditConfigs",
-    ),
-    (
-        SET,
-        r#"{"policy":{"bindings":[{"role":"viewer"}]}}"#,
-        "3 policy.bindings[0].role",
-    ),
-    (
-        SET,
-        r#"{"policy":{"auditConfigs":0,"bindings":0,"etag":0,"version":[]}}"#,
+        ("POST", SET, ADA, r#"{"policy":{"version":-1}}"#),
         "3 policy.version",
     ),
     (
-        SET,
-        r#"{"policy":{"auditConfigs":0,"bindings":0,"etag":0}}"#,
+        ("POST", SET, ADA, r#"{"policy":{"etag":""}}"#),
         "3 policy.etag",
     ),
     (
-        SET,
-        r#"{"policy":{"auditConfigs":0,"bindings":0}}"#,
+        ("POST", SET, ADA, r#"{"policy":{"auditConfigs":[{}]}}"#),
+        "3 policy.auditConfigs",
+    ),
+    (
+        (
+            "POST",
+            SET,
+            ADA,
+            r#"{"policy":{"bindings":[{"role":"viewer"}]}}"#,
+        ),
+        "3 policy.bindings[0].role",
+    ),
+    (
+        (
+            "POST",
+            SET,
+            ADA,
+            r#"{"policy":{"auditConfigs":0,"bindings":0,"etag":0,"version":[]}}"#,
+        ),
+        "3 policy.version",
+    ),
+    (
+        (
+            "POST",
+            SET,
+            ADA,
+            r#"{"policy":{"auditConfigs":0,"bindings":0,"etag":0}}"#,
+        ),
+        "3 policy.etag",
+    ),
+    (
+        (
+            "POST",
+            SET,
+            ADA,
+            r#"{"policy":{"auditConfigs":0,"bindings":0}}"#,
+        ),
         "3 policy.bindings",
     ),
     (
-        SET,
-        r#"{"policy":{"auditConfigs":0}}"#,
+        ("POST", SET, ADA, r#"{"policy":{"auditConfigs":0}}"#),
         "3 policy.auditConfigs",
     ),
 ];
 
-/// Targets, and whether they are those of the test of permissions on organisation 1000.
-static TARGETS: [(&str, bool); 34] = [
-    ("/v3/organizations/1000:testIamPermissions?x=:y/z?", true),
-    ("/v3/organizations/%31%30%300:testIamPermissions", true),
-    ("/v3/organizations/1000:setIamPolicy", false),
-    ("/v3/organizations/1000", false),
-    ("/v3/organizations/1000:", false),
-    ("/v3/organizations/1000:testIamPermissions:", false),
-    ("/v3/organizations/1000:TestIamPermissions", false),
-    ("/v3/organizations/1000:testIamPermission%73", false),
-    ("/v3/organizations/1000%3AtestIamPermissions", false),
-    ("/v3/organizations/1000?:testIamPermissions", false),
-    ("/v3/organizations/1000:testIamPermissions/", false),
-    ("/v3/organizations/1000/:testIamPermissions", false),
-    ("/v3/organizations/1000/2:testIamPermissions", false),
-    ("/v3/organizations/1000%2F2:testIamPermissions", false),
-    ("/v3/organizations%2F1000:testIamPermissions", false),
-    ("/v3/organiz%61tions/1000:testIamPermissions", false),
-    ("/v3/organizations/:testIamPermissions", false),
-    ("/v3/organizations:testIamPermissions", false),
-    ("/v3/organizations/01000:testIamPermissions", false),
+// Targets: those of a line, and others.
+static TARGETS: [Case; 17] = [
     (
-        "/v3/organizations/9000000000000000001:testIamPermissions",
-        false,
+        (
+            "POST",
+            "/v3/organizations/1000:testIamPermissions?x=:y/z?",
+            ADA,
+            TWO,
+        ),
+        TESTED,
     ),
-    ("/v3/organizations/1%ff:testIamPermissions", false),
-    ("/v3/organizations/1%:testIamPermissions", false),
-    ("/v3/folders/1000:testIamPermissions", false),
-    ("/v3//organizations/1000:testIamPermissions", false),
-    ("v3/organizations/1000:testIamPermissions", false),
-    ("http://a/v3/organizations/1000:testIamPermissions", false),
-    ("/v3/organizations/1000:x:testIamPermissions", false),
-    ("/v3/organizations/1000::testIamPermissions", false),
-    ("/v3/organizations/1000:test1IamPermissions", false),
-    ("/v3/organizations/{part}:testIamPermissions", false),
-    ("/v3/organizations/%31%3A:testIamPermissions", false),
-    ("/v3:testIamPermissions/organizations/1000", false),
-    (":testIamPermissions", false),
-    ("", false),
+    (
+        (
+            "POST",
+            "/v3/organizations/%31%30%300:testIamPermissions",
+            ADA,
+            TWO,
+        ),
+        TESTED,
+    ),
+    (
+        ("POST", "/v3/organizations/1000:setIamPolicy", ADA, TWO),
+        "3 policy",
+    ),
+    (("POST", "/v3/organizations/1000", ADA, TWO), "4"),
+    (("POST", "/v3/organizations/1000:", ADA, TWO), "4"),
+    (
+        (
+            "POST",
+            "/v3/organizations/1000:testIamPermissions:",
+            ADA,
+            TWO,
+        ),
+        "4",
+    ),
+    (
+        (
+            "POST",
+            "/v3/organizations/1000:TestIamPermissions",
+            ADA,
+            TWO,
+        ),
+        "4",
+    ),
+    (
+        (
+            "POST",
+            "/v3/organizations/1000:testIamPermission%73",
+            ADA,
+            TWO,
+        ),
+        "4",
+    ),
+    (
+        (
+            "POST",
+            "/v3/organizations/1000%3AtestIamPermissions",
+            ADA,
+            TWO,
+        ),
+        "4",
+    ),
+    (
+        (
+            "POST",
+            "/v3/organizations/1000?:testIamPermissions",
+            ADA,
+            TWO,
+        ),
+        "4",
+    ),
+    (
+        (
+            "POST",
+            "/v3/organizations/1000:testIamPermissions/",
+            ADA,
+            TWO,
+        ),
+        "4",
+    ),
+    (
+        (
+            "POST",
+            "/v3/organizations/1000/:testIamPermissions",
+            ADA,
+            TWO,
+        ),
+        "4",
+    ),
+    (
+        (
+            "POST",
+            "/v3/organizations/1000/2:testIamPermissions",
+            ADA,
+            TWO,
+        ),
+        "4",
+    ),
+    (
+        (
+            "POST",
+            "/v3/organizations/1000%2F2:testIamPermissions",
+            ADA,
+            TWO,
+        ),
+        "4",
+    ),
+    (
+        (
+            "POST",
+            "/v3/organizations%2F1000:testIamPermissions",
+            ADA,
+            TWO,
+        ),
+        "4",
+    ),
+    (
+        (
+            "POST",
+            "/v3/organiz%61tions/1000:testIamPermissions",
+            ADA,
+            TWO,
+        ),
+        "4",
+    ),
+    (
+        ("POST", "/v3/organizations/:testIamPermissions", ADA, TWO),
+        "4",
+    ),
 ];
 
-/// Methods and targets, and the number of the refusal, which comes before that of the caller. A line of another verb or
-/// none isn't one of the path.
-static METHODS: [(&str, &str, &str); 12] = [
-    ("GET", TEST, "5"),
-    ("DELETE", READ, "5"),
-    ("PATCH", SET, "5"),
-    ("", SET, "5"),
-    ("POST ", SET, "5"),
-    ("GET", "/v3/organizations/%31000:getIamPolicy?parent=x", "5"),
-    ("GET", "/v3/organizations/1000", "4"),
-    ("GET", "/v3/organizations/1000:", "4"),
-    ("GET", "/v3/organizations/1000:move", "4"),
-    ("GET", "/v3/organizations/0:getIamPolicy", "4"),
-    ("GET", "/v3/organizations/1000/x:getIamPolicy", "4"),
-    ("POST", SET, "8"),
+// More targets.
+static OTHER_TARGETS: [Case; 17] = [
+    (
+        ("POST", "/v3/organizations:testIamPermissions", ADA, TWO),
+        "4",
+    ),
+    (
+        (
+            "POST",
+            "/v3/organizations/01000:testIamPermissions",
+            ADA,
+            TWO,
+        ),
+        "4",
+    ),
+    (
+        (
+            "POST",
+            "/v3/organizations/9000000000000000001:testIamPermissions",
+            ADA,
+            TWO,
+        ),
+        "4",
+    ),
+    (
+        (
+            "POST",
+            "/v3/organizations/1%ff:testIamPermissions",
+            ADA,
+            TWO,
+        ),
+        "4",
+    ),
+    (
+        ("POST", "/v3/organizations/1%:testIamPermissions", ADA, TWO),
+        "4",
+    ),
+    (
+        ("POST", "/v3/folders/1000:testIamPermissions", ADA, TWO),
+        "4",
+    ),
+    (
+        (
+            "POST",
+            "/v3//organizations/1000:testIamPermissions",
+            ADA,
+            TWO,
+        ),
+        "4",
+    ),
+    (
+        ("POST", "v3/organizations/1000:testIamPermissions", ADA, TWO),
+        "4",
+    ),
+    (
+        (
+            "POST",
+            "http://a/v3/organizations/1000:testIamPermissions",
+            ADA,
+            TWO,
+        ),
+        "4",
+    ),
+    (
+        (
+            "POST",
+            "/v3/organizations/1000:x:testIamPermissions",
+            ADA,
+            TWO,
+        ),
+        "4",
+    ),
+    (
+        (
+            "POST",
+            "/v3/organizations/1000::testIamPermissions",
+            ADA,
+            TWO,
+        ),
+        "4",
+    ),
+    (
+        (
+            "POST",
+            "/v3/organizations/1000:test1IamPermissions",
+            ADA,
+            TWO,
+        ),
+        "4",
+    ),
+    (
+        (
+            "POST",
+            "/v3/organizations/{part}:testIamPermissions",
+            ADA,
+            TWO,
+        ),
+        "4",
+    ),
+    (
+        (
+            "POST",
+            "/v3/organizations/%31%3A:testIamPermissions",
+            ADA,
+            TWO,
+        ),
+        "4",
+    ),
+    (
+        (
+            "POST",
+            "/v3:testIamPermissions/organizations/1000",
+            ADA,
+            TWO,
+        ),
+        "4",
+    ),
+    (("POST", ":testIamPermissions", ADA, TWO), "4"),
+    (("POST", "", ADA, TWO), "4"),
 ];
+
+// Methods of a path: their refusal comes before that of the caller. A line of another verb or none isn't one of the path.
+static METHODS: [Case; 12] = [
+    (("GET", TEST, BAD, TWO), "5"),
+    (("DELETE", READ, BAD, TWO), "5"),
+    (("PATCH", SET, BAD, TWO), "5"),
+    (("", SET, BAD, TWO), "5"),
+    (("POST ", SET, BAD, TWO), "5"),
+    (
+        (
+            "GET",
+            "/v3/organizations/%31000:getIamPolicy?parent=x",
+            BAD,
+            TWO,
+        ),
+        "5",
+    ),
+    (("GET", "/v3/organizations/1000", BAD, TWO), "4"),
+    (("GET", "/v3/organizations/1000:", BAD, TWO), "4"),
+    (("GET", "/v3/organizations/1000:move", BAD, TWO), "4"),
+    (("GET", "/v3/organizations/0:getIamPolicy", BAD, TWO), "4"),
+    (
+        ("GET", "/v3/organizations/1000/x:getIamPolicy", BAD, TWO),
+        "4",
+    ),
+    (("POST", SET, BAD, TWO), "8"),
+];
+
+// Behind calls that say nothing of them: what uses the tables is proved without their texts.
+fn order() -> &'static [Case] {
+    &ORDER
+}
+
+fn bodies() -> &'static [Case] {
+    &BODIES
+}
+
+fn targets() -> &'static [Case] {
+    &TARGETS
+}
+
+fn other_targets() -> &'static [Case] {
+    &OTHER_TARGETS
+}
+
+fn methods() -> &'static [Case] {
+    &METHODS
+}
 
 fn field_of(alloc: Global, header: Header) -> Result<Field, OutOfMemory> {
     match header {
@@ -236,20 +523,25 @@ fn body_of(alloc: Global, text: &str) -> Result<List<u8>, OutOfMemory> {
     Ok(body)
 }
 
-fn message_of(alloc: Global, request: Request) -> Result<Message, OutOfMemory> {
+fn message_of(alloc: Global, request: Request, floor: Header) -> Result<Message, OutOfMemory> {
     let (method, target, caller, body) = request;
     Ok(Message {
         method: Text::of(alloc, method)?,
         target: Text::of(alloc, target)?,
         caller: field_of(alloc, caller)?,
-        floor: Field::Absent,
+        floor: field_of(alloc, floor)?,
         last: false,
         body: body_of(alloc, body)?,
     })
 }
 
-fn asked_by(alloc: Global, routes: &Routes, request: Request) -> Result<Asked, OutOfMemory> {
-    let message = message_of(alloc, request)?;
+fn asked_by(
+    alloc: Global,
+    routes: &Routes,
+    request: Request,
+    floor: Header,
+) -> Result<Asked, OutOfMemory> {
+    let message = message_of(alloc, request, floor)?;
     asked(alloc, &message, routes)
 }
 
@@ -382,80 +674,109 @@ fn call_text(alloc: Global, caller: &str, call: &Call) -> Result<Text, OutOfMemo
     }
 }
 
+// The caller, and the revision from which on.
+fn with_floor(alloc: Global, caller: &str, floor: Option<u64>) -> Result<Text, OutOfMemory> {
+    match floor {
+        Some(floor) => Ok(Text::from(format!(in alloc; "{caller} from {floor}")?)),
+        None => Text::of(alloc, caller),
+    }
+}
+
 fn asked_text(alloc: Global, asked: &Asked) -> Result<Text, OutOfMemory> {
     match asked {
         Asked::Refused(reply) => refusal_text(alloc, reply),
-        Asked::Given { caller, call } => {
+        Asked::Given {
+            caller,
+            floor,
+            call,
+        } => {
             let caller = caller.text(alloc)?;
+            let caller = with_floor(alloc, caller.as_str(), *floor)?;
             call_text(alloc, caller.as_str(), call)
         }
     }
 }
 
-fn said_by(alloc: Global, routes: &Routes, request: Request) -> Result<Text, OutOfMemory> {
-    let asked = asked_by(alloc, routes, request)?;
+fn said_from(
+    alloc: Global,
+    routes: &Routes,
+    request: Request,
+    floor: Header,
+) -> Result<Text, OutOfMemory> {
+    let asked = asked_by(alloc, routes, request, floor)?;
     let said = asked_text(alloc, &asked);
     let_go(asked);
     said
+}
+
+fn said_by(alloc: Global, routes: &Routes, request: Request) -> Result<Text, OutOfMemory> {
+    said_from(alloc, routes, request, Header::Absent)
 }
 
 fn assert_said(
     rt: &impl Abort,
     alloc: Global,
     routes: &Routes,
-    request: Request,
-    wanted: &str,
+    case: &Case,
 ) -> Result<(), OutOfMemory> {
-    assert_eq!(rt; said_by(alloc, routes, request)?.as_str(), wanted);
+    let (request, wanted) = case;
+    assert_eq!(rt; said_by(alloc, routes, *request)?.as_str(), *wanted);
+    Ok(())
+}
+
+fn assert_all(
+    rt: &impl Abort,
+    alloc: Global,
+    routes: &Routes,
+    cases: &[Case],
+) -> Result<(), OutOfMemory> {
+    for case in cases {
+        assert_said(rt, alloc, routes, case)?;
+    }
     Ok(())
 }
 
 #[test]
 fn what_is_asked(rt: HostRuntime) -> Result<(), Fail> {
-    let routes = Routes::new(rt.alloc())?;
-    for (request, wanted) in &CASES {
-        assert_said(&rt, rt.alloc(), &routes, *request, wanted)?;
-    }
+    let alloc = rt.alloc();
+    let routes = Routes::new(alloc)?;
+    assert_all(&rt, alloc, &routes, order())?;
+    assert_all(&rt, alloc, &routes, bodies())?;
+    assert_all(&rt, alloc, &routes, targets())?;
+    assert_all(&rt, alloc, &routes, other_targets())?;
+    assert_all(&rt, alloc, &routes, methods())?;
     Ok(())
 }
 
-#[test]
-fn what_bodies_ask_for(rt: HostRuntime) -> Result<(), Fail> {
-    let routes = Routes::new(rt.alloc())?;
-    for (target, body, wanted) in &BODIES {
-        let request = ("POST", *target, ADA, *body);
-        assert_said(&rt, rt.alloc(), &routes, request, wanted)?;
-    }
-    Ok(())
-}
+/// Headers `x-iam-min-revision`, callers and bodies of a reading, and what these ask for.
+static FLOORS: [(Header, Header, &str, &str); 10] = [
+    (Header::One("7"), ADA, "", FROM_SEVEN),
+    (Header::One("0000000000000000007"), ADA, "", FROM_SEVEN),
+    (Header::One("00000000000000000007"), ADA, "", BAD_FLOOR),
+    (Header::One("0x2"), ADA, "", BAD_FLOOR),
+    (Header::One("-1"), ADA, "", BAD_FLOOR),
+    (Header::One(""), ADA, "", BAD_FLOOR),
+    (Header::Bad, ADA, "", BAD_FLOOR),
+    (Header::Bad, Header::One("bob"), "[", "8"),
+    (Header::Bad, ADA, "[", "2"),
+    (Header::Bad, ADA, r#"{"options":[]}"#, BAD_FLOOR),
+];
 
-fn reaches_the_test(
-    alloc: Global,
-    routes: &Routes,
-    target: &'static str,
-) -> Result<bool, OutOfMemory> {
-    let said = said_by(alloc, routes, ("POST", target, ADA, TWO))?;
-    Ok(
-        said.as_str()
-            == r#"user:ada@example.com tests organizations/1000 {"permissions":["a.b.c","d.e.f"]}"#,
-    )
-}
+const FROM_SEVEN: &str =
+    r#"user:ada@example.com from 7 reads organizations/1000 {"bindings":[],"etag":"AAAAAAAAAAA=","version":0}"#;
+
+const BAD_FLOOR: &str = "3 x-iam-min-revision";
 
 #[test]
-fn targets(rt: HostRuntime) -> Result<(), Fail> {
-    let routes = Routes::new(rt.alloc())?;
-    for (target, reached) in &TARGETS {
-        assert_eq!(rt; reaches_the_test(rt.alloc(), &routes, target)?, *reached);
-    }
-    Ok(())
-}
-
-#[test]
-fn methods(rt: HostRuntime) -> Result<(), Fail> {
-    let routes = Routes::new(rt.alloc())?;
-    for (method, target, wanted) in &METHODS {
-        let request = (*method, *target, Header::One("bob"), TWO);
-        assert_said(&rt, rt.alloc(), &routes, request, wanted)?;
+fn floors(rt: HostRuntime) -> Result<(), Fail> {
+    let alloc = rt.alloc();
+    let routes = Routes::new(alloc)?;
+    for (floor, caller, body, wanted) in &FLOORS {
+        let request = ("POST", READ, *caller, *body);
+        assert_eq!(rt;
+            said_from(alloc, &routes, request, *floor)?.as_str(),
+            *wanted
+        );
     }
     Ok(())
 }

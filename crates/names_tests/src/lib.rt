@@ -1,9 +1,7 @@
-//! Tests of names, and of the outside in memory.
+//! Tests of names.
 //!
 //! No code stands beside them, so that no other proof is made again with theirs.
 #![tactic(auto)]
 
 #[cfg(test)]
 mod names;
-#[cfg(test)]
-mod outside;

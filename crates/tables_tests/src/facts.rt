@@ -1,8 +1,11 @@
 // The first rule that facts break. They are read of rows, in the order of these.
+ghost use Rattle.std.specs.Prelude.{IfOk, All};
+ghost use Rattle.iam_model.specs.Formed.{IsFact};
+
 use crate::given::{NAME, row};
 use iam_outer::Row;
 use iam_rows::{LoadStop, facts_of_rows};
-use iam_tables::{TablesStop, from_facts};
+use iam_tables::{Fact, TablesStop, from_facts};
 use iam_text::{List, OutOfMemory, let_go};
 use std::alloc::{AllocError, Global};
 use std::fmt::Write;
@@ -32,7 +35,7 @@ const KEPT: Case = Case {
     rule: 0,
 };
 
-const CASES: [Case; 15] = [
+static CASES: [Case; 15] = [
     KEPT,
     Case {
         policies: 0,
@@ -144,9 +147,21 @@ fn rows(alloc: Global, case: &Case) -> Result<List<Row>, OutOfMemory> {
     Ok(rows)
 }
 
-// The first rule that the facts of the rows break, or 0.
-fn rule(alloc: Global, rows: &[Row]) -> Result<u8, LoadStop> {
-    let facts = facts_of_rows(alloc, rows)?;
+fn cases() -> &'static [Case] {
+    &CASES
+}
+
+// The calls stand in functions of their own, which promise no more than the next one asks for.
+fn facts_in(alloc: Global, rows: &[Row]) -> Result<List<Fact>, LoadStop>
+    ensures { IfOk result (All IsFact) }
+{
+    facts_of_rows(alloc, rows)
+}
+
+// The first rule that the facts break, or 0.
+fn broken_by(alloc: Global, facts: List<Fact>) -> Result<u8, LoadStop>
+    requires { All IsFact facts }
+{
     match from_facts(alloc, facts) {
         Ok(tables) => {
             let_go(tables);
@@ -157,12 +172,16 @@ fn rule(alloc: Global, rows: &[Row]) -> Result<u8, LoadStop> {
     }
 }
 
+fn rule(alloc: Global, case: &Case) -> Result<u8, LoadStop> {
+    let rows = rows(alloc, case)?;
+    let facts = facts_in(alloc, rows.as_slice())?;
+    broken_by(alloc, facts)
+}
+
 #[test]
 fn first_broken_rule_counts(rt: HostRuntime) -> Result<(), Fail> {
-    let alloc = rt.alloc();
-    for case in &CASES {
-        let rows = rows(alloc, case)?;
-        assert_eq!(rt; rule(alloc, rows.as_slice())?, case.rule);
+    for case in cases() {
+        assert_eq!(rt; rule(rt.alloc(), case)?, case.rule);
     }
     Ok(())
 }

@@ -1,92 +1,106 @@
 // The rows of an opening, byte for byte, and rows that keep nothing.
+ghost use Rattle.std.specs.Prelude.{IfOk};
+ghost use Rattle.iam_model.specs.Formed.{IsFact};
+
 use crate::given::{ALLOW, NAME, ORG, row};
 use iam_outer::{Row, RowWrite};
 use iam_rows::{LoadStop, RowStop, fact_of, facts_of_rows, row_of, writes_of};
-use iam_tables::FactChange;
-use iam_text::{List, Text, let_go};
+use iam_tables::{Fact, FactChange};
+use iam_text::{List, OutOfMemory, Text, let_go};
 use std::alloc::Global;
 use std::test::Fail;
 
-// Parts and bodies: nothing in the organisation's body, an unknown part, an unknown member, a member that can't be
-// read, a binding without members, a space, another schema, and members in another order.
-const BAD: [(&str, &str); 8] = [
-    ("org", "{}"),
-    ("node", "{}"),
+// Parts and bodies, and what becomes of the row. Those of an opening are kept. Bad are: nothing in the organisation's body,
+// an unknown part, an unknown member, a member that can't be read, a binding without members, a space, another schema, and
+// members in another order.
+static ROWS: [(&str, &str, &str); 10] = [
+    ("allow", ALLOW, "kept"),
+    ("org", ORG, "kept"),
+    ("org", "{}", "bad"),
+    ("node", "{}", "bad"),
     (
         "org",
         "{\"changes\":1,\"customer\":\"C01\",\"domain\":\"example.com\",\"label\":1,\"next\":1,\"schema\":1}",
+        "bad",
     ),
     (
         "allow",
         "{\"bindings\":[{\"members\":[\"user:\"],\"role\":\"roles/viewer\"}],\"set\":1}",
+        "bad",
     ),
     (
         "allow",
         "{\"bindings\":[{\"members\":[],\"role\":\"roles/viewer\"}],\"set\":1}",
+        "bad",
     ),
-    ("allow", "{\"bindings\":[], \"set\":1}"),
+    ("allow", "{\"bindings\":[], \"set\":1}", "bad"),
     (
         "org",
         "{\"changes\":1,\"customer\":\"C01\",\"domain\":\"example.com\",\"next\":1,\"schema\":2}",
+        "bad",
     ),
     (
         "org",
         "{\"customer\":\"C01\",\"changes\":1,\"domain\":\"example.com\",\"next\":1,\"schema\":1}",
+        "bad",
     ),
 ];
 
+fn table() -> &'static [(&'static str, &'static str, &'static str)] {
+    &ROWS
+}
+
+// The calls stand in functions of their own, which promise no more than the next one asks for.
+fn fact_in(alloc: Global, row: &Row) -> Result<Fact, RowStop>
+    ensures { IfOk result IsFact }
+{
+    fact_of(alloc, row)
+}
+
+fn row_with(alloc: Global, fact: Fact) -> Result<Row, OutOfMemory>
+    requires { IsFact fact }
+{
+    let row = row_of(alloc, &fact);
+    let_go(fact);
+    row
+}
+
 // The row of the fact that a row keeps.
 fn again(alloc: Global, kept: &Row) -> Result<Row, RowStop> {
-    let fact = fact_of(alloc, kept)?;
-    let again = row_of(alloc, &fact);
-    let_go(fact);
-    Ok(again?)
+    let fact = fact_in(alloc, kept)?;
+    Ok(row_with(alloc, fact)?)
 }
 
-// The fact of the first row is put, and that of the second is cut.
-fn writes(alloc: Global, put: &Row, cut: &Row) -> Result<List<RowWrite>, RowStop> {
-    let put = fact_of(alloc, put)?;
-    let cut = match fact_of(alloc, cut) {
-        Ok(cut) => cut,
-        Err(stop) => {
-            let_go(put);
-            return Err(stop);
-        }
-    };
-    let changes = [FactChange::Put(put), FactChange::Cut(cut)];
-    let writes = writes_of(alloc, changes.as_slice());
-    let_go(changes);
-    Ok(writes?)
+// What becomes of the row.
+fn fate(alloc: Global, part: &str, body: &str) -> Result<&'static str, OutOfMemory> {
+    let kept = row(alloc, part, NAME, body)?;
+    match again(alloc, &kept) {
+        Ok(again) => Ok(if again == kept { "kept" } else { "another" }),
+        Err(RowStop::BadRow) => Ok("bad"),
+        Err(RowStop::OutOfMemory) => Err(OutOfMemory),
+    }
 }
 
 #[test]
-fn rows_of_an_opening_are_kept(rt: HostRuntime) -> Result<(), Fail> {
-    let alloc = rt.alloc();
-    for (part, body) in [("allow", ALLOW), ("org", ORG)] {
-        let kept = row(alloc, part, NAME, body)?;
-        assert!(rt; again(alloc, &kept)? == kept, "{body}");
+fn rows_are_kept_or_bad(rt: HostRuntime) -> Result<(), Fail> {
+    for (part, body, wanted) in table() {
+        assert_eq!(rt; fate(rt.alloc(), part, body)?, *wanted, "{body}");
     }
     Ok(())
 }
 
-#[test]
-fn bad_rows_keep_nothing(rt: HostRuntime) -> Result<(), Fail> {
-    let alloc = rt.alloc();
-    for (part, body) in BAD {
-        let bad = row(alloc, part, NAME, body)?;
-        assert!(rt; again(alloc, &bad) == Err(RowStop::BadRow), "{body}");
-    }
-    Ok(())
+fn count_of(alloc: Global, rows: &[Row]) -> Result<usize, LoadStop> {
+    let facts = facts_of_rows(alloc, rows)?;
+    let count = facts.len();
+    let_go(facts);
+    Ok(count)
 }
 
 fn load(alloc: Global, last: &str) -> Result<usize, LoadStop> {
     let mut rows = List::new(alloc);
     rows.push(row(alloc, "allow", NAME, ALLOW)?)?;
     rows.push(row(alloc, "org", NAME, last)?)?;
-    let facts = facts_of_rows(alloc, rows.as_slice())?;
-    let count = facts.len();
-    let_go(facts);
-    Ok(count)
+    count_of(alloc, rows.as_slice())
 }
 
 #[test]
@@ -96,17 +110,46 @@ fn the_first_bad_row_is_named(rt: HostRuntime) {
     assert!(rt; load(alloc, "{}") == Err(LoadStop::BadRow { index: 1 }));
 }
 
-#[test]
-fn changes_are_written(rt: HostRuntime) -> Result<(), Fail> {
-    let alloc = rt.alloc();
+fn writes_with(alloc: Global, put: Fact, cut: Fact) -> Result<List<RowWrite>, OutOfMemory>
+    requires put { IsFact put }
+    requires cut { IsFact cut }
+{
+    let changes = [FactChange::Put(put), FactChange::Cut(cut)];
+    let writes = writes_of(alloc, changes.as_slice());
+    let_go(changes);
+    writes
+}
+
+// The fact of the first row is put, and that of the second is cut.
+fn writes(alloc: Global, put: &Row, cut: &Row) -> Result<List<RowWrite>, RowStop> {
+    let put = fact_in(alloc, put)?;
+    match fact_in(alloc, cut) {
+        Ok(cut) => Ok(writes_with(alloc, put, cut)?),
+        Err(stop) => {
+            let_go(put);
+            Err(stop)
+        }
+    }
+}
+
+fn wanted_writes(alloc: Global) -> Result<List<RowWrite>, OutOfMemory> {
     let mut wanted = List::new(alloc);
     wanted.push(RowWrite::Put(row(alloc, "org", NAME, ORG)?))?;
     wanted.push(RowWrite::Cut {
         part: Text::of(alloc, "allow")?,
         name: Text::of(alloc, NAME)?,
     })?;
+    Ok(wanted)
+}
+
+fn made_writes(alloc: Global) -> Result<List<RowWrite>, RowStop> {
     let put = row(alloc, "org", NAME, ORG)?;
     let cut = row(alloc, "allow", NAME, ALLOW)?;
-    assert!(rt; writes(alloc, &put, &cut)? == wanted);
+    writes(alloc, &put, &cut)
+}
+
+#[test]
+fn changes_are_written(rt: HostRuntime) -> Result<(), Fail> {
+    assert!(rt; made_writes(rt.alloc())? == wanted_writes(rt.alloc())?);
     Ok(())
 }
