@@ -1,6 +1,7 @@
 #!/usr/bin/env bash
-# Two runs over one file: what the first one set is there in the second, and `ask` tells an access of it. Then files that
-# can't be used. It says what it does, and ends with 1 where something isn't as it should be. It is no part of the gate.
+# Two runs over one file: what the first one set is there in the second, and `ask` tells an access of it. Then a run that is
+# killed between two messages, and files that can't be used. It says what it does, and ends with 1 where something isn't as it
+# should be. It is no part of the gate.
 set -u
 top=$(cd "$(dirname "$0")/.." && pwd)
 folder=$(mktemp -d)
@@ -82,6 +83,26 @@ if command -v sqlite3 >/dev/null; then
     sqlite3 "$db" 'SELECT part, name, body FROM iam_rows ORDER BY part, name' | sed 's/^/  /'
 fi
 
+echo "A run sets the policy, reads it a thousand times and sets it again. It is killed behind its first reply, while it waits for its
+  replies to be read: the first setting is kept, and the second isn't."
+{
+    request setIamPolicy ada "$(setting AAAAAAAAAAM=)"
+    for _ in $(seq 1000); do request getIamPolicy ada ""; done
+    request setIamPolicy ada "$(setting AAAAAAAAAAQ=)"
+} >"$folder/input"
+mkfifo "$folder/replies"
+"$top/iamd" apply --db "$db" <"$folder/input" >"$folder/replies" &
+run=$!
+exec 3<"$folder/replies"
+while IFS= read -r line <&3; do
+    case $line in x-iam-revision:*) break ;; esac
+done
+kill -9 "$run"
+wait "$run" 2>/dev/null
+exec 3<&-
+request getIamPolicy ada "" >"$folder/input"
+try 0 "" 'x-iam-revision: 4' '"etag":"AAAAAAAAAAQ="' -- "$top/iamd" apply --db "$db"
+
 echo "A file that isn't a database, a folder, and a file in a folder that isn't there: exit 4, and all is as it was."
 printf 'no database, and longer than the head of one would be: %0200d\n' 0 >"$folder/text"
 refuse 4 Keeper "$folder/text"
@@ -93,6 +114,28 @@ if command -v sqlite3 >/dev/null; then
     sqlite3 "$folder/bad.db" "CREATE TABLE iam_rows (part TEXT NOT NULL, name TEXT NOT NULL, body TEXT NOT NULL, PRIMARY KEY (part, name)) STRICT;
         INSERT INTO iam_rows VALUES ('org', 'organizations/1000', '{}')"
     refuse 3 Rows "$folder/bad.db"
+fi
+
+# As root this is tried as another user, since root may write any file.
+as=()
+if [ "$(id -u)" = 0 ]; then
+    as=(setpriv --reuid=65534 --regid=65534 --clear-groups --)
+fi
+if [ "$(id -u)" != 0 ] || command -v setpriv >/dev/null; then
+    echo "A file that can't be written: exit 4, and it is as it was."
+    mkdir "$folder/locked"
+    cp "$top/crates/iamd/out/iamd" "$folder/program"
+    cp "$db" "$folder/locked/iamd.db"
+    chmod 755 "$folder" "$folder/program"
+    chmod 444 "$folder/locked/iamd.db"
+    chmod 555 "$folder/locked"
+    before=$(sha256sum "$folder/locked/iamd.db")
+    try 4 Keeper -- "${as[@]}" "$folder/program" apply --db "$folder/locked/iamd.db"
+    if [ "$before" != "$(sha256sum "$folder/locked/iamd.db")" ]; then
+        echo "  WRONG: $folder/locked/iamd.db was changed"
+        wrong=1
+    fi
+    chmod 755 "$folder/locked"
 fi
 
 [ "$wrong" = 0 ] && echo "All is as it should be."
