@@ -1,5 +1,5 @@
-ghost use Rattle.std.specs.Prelude.{◌≡◌, ◌<◌, ◌≤◌, length, IfOk, IsUtf8, slice_index, true};
-ghost use Rattle.cel_tree.specs.Spelling.{is_letter, is_reserved};
+ghost use Rattle.std.specs.Prelude.{◌≡◌, ◌<◌, ◌≤◌, length, IfOk, IsUtf8, map, slice_index, true};
+ghost use Rattle.cel_tree.specs.Spelling.{is_letter, is_reserved, reserved_words};
 ghost use Rattle.cel_lexeme.specs.Lexeme.{word_lexeme};
 ghost use Rattle.cel_lexeme.specs.Front.{word_at};
 
@@ -9,28 +9,40 @@ use cel_tree::{Sign, TokenKind};
 use iam_text::OutOfMemory;
 use std::alloc::Global;
 
-/// Whether a word is kept for other uses, or `null`.
+/// The words that are kept for other uses, and `null`.
+static RESERVED_WORDS: [&str; 18] = [
+    "as",
+    "break",
+    "const",
+    "continue",
+    "else",
+    "for",
+    "function",
+    "if",
+    "import",
+    "let",
+    "loop",
+    "namespace",
+    "null",
+    "package",
+    "return",
+    "var",
+    "void",
+    "while",
+];
+
+fn reserved_words() -> &'static [&'static str]
+    ensures { map (λ word. word.now) result.now ≡ reserved_words }
+{
+    &RESERVED_WORDS
+}
+
 fn is_reserved(word: &[u8]) -> bool
     ensures { result ≡ is_reserved word.now }
 {
-    word == b"as".as_slice()
-        || word == b"break".as_slice()
-        || word == b"const".as_slice()
-        || word == b"continue".as_slice()
-        || word == b"else".as_slice()
-        || word == b"for".as_slice()
-        || word == b"function".as_slice()
-        || word == b"if".as_slice()
-        || word == b"import".as_slice()
-        || word == b"let".as_slice()
-        || word == b"loop".as_slice()
-        || word == b"namespace".as_slice()
-        || word == b"null".as_slice()
-        || word == b"package".as_slice()
-        || word == b"return".as_slice()
-        || word == b"var".as_slice()
-        || word == b"void".as_slice()
-        || word == b"while".as_slice()
+    reserved_words()
+        .iter()
+        .any(|reserved| word == reserved.as_bytes())
 }
 
 fn word_lexeme(alloc: Global, word: &[u8]) -> Result<Lexeme, OutOfMemory>

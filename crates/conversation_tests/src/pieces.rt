@@ -12,8 +12,8 @@ use iam_text::let_go;
 use std::alloc::{AllocError, Global};
 use std::test::Fail;
 
-/// A line that gives its input in pieces of one size, and keeps what it takes. Where it waits, a read fails unless something was written
-/// since the one before.
+/// A line that gives its input in pieces of one size, and keeps what it takes. Where it waits, a read comes too early if nothing was
+/// written since the one before; it fails then, and so does each read behind it.
 #[derive(Drop)]
 struct Pieces {
     input: List<u8>,
@@ -21,6 +21,7 @@ struct Pieces {
     size: usize,
     waits: bool,
     answered: bool,
+    is_early: bool,
     written: List<u8>,
     failed_reads: u64,
     failed_writes: u64,
@@ -43,7 +44,8 @@ impl Source for Pieces {
     ghost sink_side = { λ p. (None, p.failed_writes) };
 
     fn read(&mut self, into: &mut [u8]) -> Result<usize, Failed> {
-        if self.waits && self.at > 0 && !self.answered {
+        self.is_early = self.is_early || (self.waits && self.at > 0 && !self.answered);
+        if self.is_early {
             self.failed_reads = self.failed_reads.saturating_add(1);
             return Err(Failed);
         }
@@ -121,6 +123,7 @@ fn line_of(alloc: Global, input: &[u8], size: usize, waits: bool) -> Result<Piec
         size,
         waits,
         answered: false,
+        is_early: false,
         written: List::new(alloc),
         failed_reads: 0,
         failed_writes: 0,
