@@ -8,3 +8,4 @@ pub mod Signs
 pub mod Covering
 pub mod Spelled
 pub mod Proper
+mod Among

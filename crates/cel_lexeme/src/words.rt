@@ -1,4 +1,6 @@
 ghost use Rattle.std.specs.Prelude.{◌≡◌, ◌<◌, ◌≤◌, length, IfOk, IsUtf8, map, slice_index, true};
+ghost use Rattle.std.specs.List.{list_any};
+ghost use Rattle.std.specs.Str.{bytes_eq};
 ghost use Rattle.cel_tree.specs.Spelling.{is_letter, is_reserved, reserved_words};
 ghost use Rattle.cel_lexeme.specs.Lexeme.{word_lexeme};
 ghost use Rattle.cel_lexeme.specs.Front.{word_at};
@@ -37,12 +39,16 @@ fn reserved_words() -> &'static [&'static str]
     &RESERVED_WORDS
 }
 
+fn is_any_of(words: &[&'static str], word: &[u8]) -> bool
+    ensures { result ≡ list_any (λ one. bytes_eq word.now one.now) words.now }
+{
+    words.iter().any(|one| word == one.as_bytes())
+}
+
 fn is_reserved(word: &[u8]) -> bool
     ensures { result ≡ is_reserved word.now }
 {
-    reserved_words()
-        .iter()
-        .any(|reserved| word == reserved.as_bytes())
+    is_any_of(reserved_words(), word)
 }
 
 fn word_lexeme(alloc: Global, word: &[u8]) -> Result<Lexeme, OutOfMemory>
