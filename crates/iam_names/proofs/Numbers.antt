@@ -1,6 +1,8 @@
 -- Numbers of nodes and their digits.
-use Rattle.std.proofs.Common.{◌≡◌, ◌≢◌, ◌↔◌, ℕ, ◌<◌, ◌≤◌, ◌^◌, true, List, length, get_or, Ok, Result, Some, None, Option, refl, sym, ap, ◌∙◌, subst, arith, rules, lit<}
+use Rattle.std.proofs.Common.{◌≡◌, ◌≢◌, ◌↔◌, ℕ, ◌<◌, ◌≤◌, ◌^◌, true, List, [], ◌∷◌, length, get_or, Ok, Result, Some, None, Option, refl, sym, ap, ◌∙◌, subst, arith, rules, lit<}
 use Rattle.std.specs.Fmt.{decimal}
+use Rattle.std.specs.Prelude.{nat_le}
+use Rattle.std.proofs.lemmas.Bool.{and_parts, leb-true}
 use Rattle.std.specs.List.{list_all}
 use Rattle.std.specs.Str.Parse.{digits_value, ParsesUnsigned}
 use Rattle.std.proofs.lemmas.Str.Parse.{IsDigitsTest, IsNumeralModel, numerals_by_value, parse_gives, digits_value_short}
@@ -43,6 +45,14 @@ written_is_number n is =
     let some : 0 < length (decimal n) = decimal_nonempty n fits in
     let few : length (decimal n) ≤ 19 = length-decimal-le 19 n (omega arith) (omega arith) fits in
     (((some, few, digits_decimal own n fits), λ zero. omega (arith, zero)), subst IsNodeNumber (sym (digits_value-decimal own n fits)) is)
+
+-- digits begin with a digit
+pub first_digit : (text : List ℕ) → 1 ≤ length text → list_all is_digit text ≡ true → (48 ≤ get_or text 0 0) × (get_or text 0 0 ≤ 57)
+first_digit [] some all = absurd (omega (arith, some))
+first_digit (byte ∷ more) some all =
+    let first = (and_parts (is_digit byte) (list_all is_digit more) all).0 in
+    let bounds = and_parts (nat_le 48 byte) (nat_le byte 57) first in
+    (leb-true 48 byte bounds.0, leb-true byte 57 bounds.1)
 
 -- a text without the form is not written of a number
 pub not_written : (text : List ℕ) → ¬ IsNumber text → (n : ℕ) → IsNodeNumber n → text ≢ decimal n

@@ -2,6 +2,15 @@
 use Rattle.std.specs.Prelude.{ℕ, ◌≤◌, Bool, ◌&&◌, ◌||◌, ◌==◌, nat_le, List, length, IsTrue}
 use Rattle.std.specs.List.{list_all}
 
+abbrev pub blank : ℕ
+blank = 32
+
+abbrev pub exclamation_mark : ℕ
+exclamation_mark = 33
+
+abbrev pub quotation_mark : ℕ
+quotation_mark = 34
+
 abbrev pub dash : ℕ
 dash = 45
 
@@ -45,6 +54,15 @@ is_label_byte byte = is_lower byte || is_digit byte || (byte == dash)
 -- letters, digits, `.`, `_`, `-`, `+` and `'`
 abbrev pub is_local_byte : ℕ → Bool
 is_local_byte byte = is_letter_or_digit byte || (byte == dot) || (byte == underscore) || (byte == dash) || (byte == plus_sign) || (byte == apostrophe)
+
+-- letters, digits, spaces, `-` and `_`
+abbrev pub is_folder_display_byte : ℕ → Bool
+is_folder_display_byte byte = is_letter_or_digit byte || (byte == blank) || (byte == dash) || (byte == underscore)
+
+-- letters, digits, spaces, `-`, `'`, `"` and `!`
+abbrev pub is_project_display_byte : ℕ → Bool
+is_project_display_byte byte =
+    is_letter_or_digit byte || (byte == blank) || (byte == dash) || (byte == apostrophe) || (byte == quotation_mark) || (byte == exclamation_mark)
 
 -- letters, digits, `_` and `.`
 abbrev pub is_role_byte : ℕ → Bool

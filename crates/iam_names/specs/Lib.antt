@@ -2,6 +2,7 @@ pub mod Bytes
 pub mod Caller
 pub mod Deny
 pub mod Digits
+pub mod Display
 pub mod Domain
 pub mod Email
 pub mod Member

@@ -22,15 +22,28 @@ collection_of AProject = codes "projects/"
 abbrev pub node_id_text : NodeId → List ℕ
 node_id_text node = collection_of node.kind ++ decimal node.number
 
+-- the name of the node of a kind with a number
+abbrev pub name_of_kind : NodeKind → ℕ → NodeName
+name_of_kind AnOrganization number = Organization number
+name_of_kind AFolder number = Folder number
+name_of_kind AProject number = ProjectNumber number
+
 abbrev pub node_text : NodeName → List ℕ
 node_text (Organization number) = codes "organizations/" ++ decimal number
 node_text (Folder number) = codes "folders/" ++ decimal number
 node_text (ProjectNumber number) = codes "projects/" ++ decimal number
 node_text (ProjectId id) = codes "projects/" ++ id
 
--- the names that are read: those of organisations
+abbrev pub IsNodeId : NodeId → Type 0
+IsNodeId node = IsNodeNumber node.number
+
+-- the name of a node by its number
+abbrev pub name_of_node : NodeId → NodeName
+name_of_node node = name_of_kind node.kind node.number
+
+-- the names that are read: a project's id begins with a letter, so it is no number
 abbrev pub IsNodeName : NodeName → Type 0
 IsNodeName (Organization number) = IsNodeNumber number
-IsNodeName (Folder number) = ⊥
-IsNodeName (ProjectNumber number) = ⊥
-IsNodeName (ProjectId id) = ⊥
+IsNodeName (Folder number) = IsNodeNumber number
+IsNodeName (ProjectNumber number) = IsNodeNumber number
+IsNodeName (ProjectId id) = IsProjectId id

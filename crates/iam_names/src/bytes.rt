@@ -1,7 +1,7 @@
 // Which bytes may stand in the words that names are made of.
 ghost use Rattle.std.specs.Prelude.{◌≡◌};
 ghost use Rattle.std.specs.List.{list_all};
-ghost use Rattle.iam_names.specs.Bytes.{is_digit, is_lower, is_upper, is_letter_or_digit, is_label_byte, is_local_byte, is_role_byte};
+ghost use Rattle.iam_names.specs.Bytes.{is_digit, is_lower, is_upper, is_letter_or_digit, is_label_byte, is_local_byte, is_folder_display_byte, is_project_display_byte, is_role_byte};
 
 fn is_digit(byte: u8) -> bool
     ensures { result ≡ is_digit byte }
@@ -9,7 +9,7 @@ fn is_digit(byte: u8) -> bool
     b'0' <= byte && byte <= b'9'
 }
 
-fn is_lower(byte: u8) -> bool
+pub fn is_lower(byte: u8) -> bool
     ensures { result ≡ is_lower byte }
 {
     b'a' <= byte && byte <= b'z'
@@ -21,7 +21,7 @@ fn is_upper(byte: u8) -> bool
     b'A' <= byte && byte <= b'Z'
 }
 
-fn is_letter_or_digit(byte: u8) -> bool
+pub fn is_letter_or_digit(byte: u8) -> bool
     ensures { result ≡ is_letter_or_digit byte }
 {
     is_upper(byte) || is_lower(byte) || is_digit(byte)
@@ -42,6 +42,23 @@ fn is_local_byte(byte: u8) -> bool
         || byte == b'-'
         || byte == b'+'
         || byte == b'\''
+}
+
+fn is_folder_display_byte(byte: u8) -> bool
+    ensures { result ≡ is_folder_display_byte byte }
+{
+    is_letter_or_digit(byte) || byte == b' ' || byte == b'-' || byte == b'_'
+}
+
+fn is_project_display_byte(byte: u8) -> bool
+    ensures { result ≡ is_project_display_byte byte }
+{
+    is_letter_or_digit(byte)
+        || byte == b' '
+        || byte == b'-'
+        || byte == b'\''
+        || byte == b'"'
+        || byte == b'!'
 }
 
 fn is_role_byte(byte: u8) -> bool
@@ -72,6 +89,18 @@ pub fn all_local_bytes(bytes: &[u8]) -> bool
     ensures { result ≡ list_all is_local_byte bytes.now }
 {
     bytes.iter().all(|b| is_local_byte(*b))
+}
+
+pub fn all_folder_display_bytes(bytes: &[u8]) -> bool
+    ensures { result ≡ list_all is_folder_display_byte bytes.now }
+{
+    bytes.iter().all(|b| is_folder_display_byte(*b))
+}
+
+pub fn all_project_display_bytes(bytes: &[u8]) -> bool
+    ensures { result ≡ list_all is_project_display_byte bytes.now }
+{
+    bytes.iter().all(|b| is_project_display_byte(*b))
 }
 
 pub fn all_role_bytes(bytes: &[u8]) -> bool

@@ -10,6 +10,7 @@ mod bytes;
 mod caller;
 mod deny;
 mod digits;
+mod display;
 mod domain;
 mod email;
 mod limits;
@@ -25,11 +26,13 @@ mod text;
 pub use caller::{Caller, copy_caller, same_caller};
 pub use deny::{DenyPrincipal, copy_deny_principal, same_deny_principal};
 pub use digits::read_digits;
+pub use display::{is_folder_display, is_project_display};
 pub use domain::{is_customer, is_domain};
 pub use email::{Email, copy_email, same_email};
 pub use member::{Leaf, Member, copy_leaf, copy_member, same_leaf, same_member};
 pub use node::{
-    NodeId, NodeKind, NodeName, copy_node_name, same_node_id, same_node_kind, same_node_name,
+    NodeId, NodeKind, NodeName, copy_node_name, is_project_id, same_node_id, same_node_kind,
+    same_node_name,
 };
 pub use number::read_number;
 pub use permission::{

@@ -18,6 +18,21 @@ pub const NUMBER_DIGITS: usize = 19;
 /// The last number that a node may have.
 pub const LAST_NUMBER: u64 = 9_000_000_000_000_000_000;
 
+/// The least bytes of the id of a project.
+pub const PROJECT_ID_LEAST: usize = 6;
+
+/// The most bytes of the id of a project.
+pub const PROJECT_ID_BYTES: usize = 30;
+
+/// The least bytes by which a folder is shown.
+pub const FOLDER_DISPLAY_LEAST: usize = 3;
+
+/// The least bytes by which a project is shown.
+pub const PROJECT_DISPLAY_LEAST: usize = 4;
+
+/// The most bytes by which a folder or a project is shown.
+pub const DISPLAY_BYTES: usize = 30;
+
 /// The most bytes of each part of a permission.
 pub const PERMISSION_PART_BYTES: usize = 64;
 

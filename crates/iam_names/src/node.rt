@@ -1,13 +1,15 @@
 // Names of organisations, folders and projects.
-ghost use Rattle.std.specs.Prelude.{◌≡◌, ◌↔◌, IfOk, IsTrue};
+ghost use Rattle.std.specs.Prelude.{◌≡◌, ◌≢◌, ◌↔◌, ◌++◌, List as Bytes, ℕ, codes, IfOk, IfSome, IfNone, IsTrue};
 ghost use Rattle.std.specs.Cmp.Lexicographic.{slice_cmp};
 ghost use Rattle.std.specs.Fmt.{decimal};
 ghost use Rattle.std.specs.Ordering.{nat_cmp};
-ghost use Rattle.iam_names.specs.Node.{collection_of, node_id_text, node_text, IsNodeName};
+ghost use Rattle.iam_names.specs.Node.{collection_of, name_of_node, node_id_text, node_text, IsNodeId, IsNodeName, IsProjectId};
 ghost use Rattle.iam_names.specs.Reading.{IsRead, ReadsBack};
 
+use crate::bytes::{all_label_bytes, is_lower};
+use crate::limits::{PROJECT_ID_BYTES, PROJECT_ID_LEAST};
 use crate::number::number_behind;
-use crate::text::{numbered, prefixed};
+use crate::text::{behind, numbered, prefixed};
 use iam_text::{OutOfMemory, Text};
 use itoa::Buffer;
 use std::alloc::Global;
@@ -46,6 +48,29 @@ fn collection(kind: NodeKind) -> &'static str
     }
 }
 
+/// Whether a text is the id of a project.
+pub fn is_project_id(text: &str) -> bool
+    ensures { IsTrue result ↔ IsProjectId text.now }
+{
+    let bytes = text.as_bytes();
+    if bytes.len() < PROJECT_ID_LEAST || bytes.len() > PROJECT_ID_BYTES {
+        return false;
+    }
+    if !is_lower(bytes[0]) || bytes[bytes.len() - 1] == b'-' {
+        return false;
+    }
+    all_label_bytes(bytes)
+}
+
+// The id of the project that a text names by it.
+fn project_id_behind(text: &str) -> Option<&str>
+    ensures some { IfSome result (λ id. IsProjectId id.now × (text.now ≡ codes "projects/" ++ id.now)) }
+    ensures none { IfNone result ((id : Bytes ℕ) → IsProjectId id → text.now ≢ codes "projects/" ++ id) }
+{
+    let id = behind("projects/", text)?;
+    if is_project_id(id) { Some(id) } else { None }
+}
+
 fn digits_order(a: u64, b: u64) -> Ordering
     ensures { result ≡ slice_cmp nat_cmp (decimal a) (decimal b) }
 {
@@ -55,6 +80,43 @@ fn digits_order(a: u64, b: u64) -> Ordering
 }
 
 impl NodeId {
+    /// The node that a text names by its number.
+    pub fn read(text: &str) -> Option<NodeId>
+        ensures read { IsRead IsNodeId node_id_text text.now result }
+        ensures back { ReadsBack IsNodeId node_id_text text.now result }
+    {
+        if let Some(number) = number_behind("organizations/", text) {
+            return Some(NodeId {
+                kind: NodeKind::Organization,
+                number,
+            });
+        }
+        if let Some(number) = number_behind("folders/", text) {
+            return Some(NodeId {
+                kind: NodeKind::Folder,
+                number,
+            });
+        }
+        let Some(number) = number_behind("projects/", text) else {
+            return None;
+        };
+        Some(NodeId {
+            kind: NodeKind::Project,
+            number,
+        })
+    }
+
+    /// Its name by its number.
+    pub fn name(self) -> NodeName
+        ensures { result ≡ name_of_node self }
+    {
+        match self.kind {
+            NodeKind::Organization => NodeName::Organization(self.number),
+            NodeKind::Folder => NodeName::Folder(self.number),
+            NodeKind::Project => NodeName::ProjectNumber(self.number),
+        }
+    }
+
     pub fn text(&self, alloc: Global) -> Result<Text, OutOfMemory>
         ensures { IfOk result (λ text. text ≡ node_id_text self.now) }
     {
@@ -77,15 +139,18 @@ impl NodeId {
 }
 
 impl NodeName {
-    /// The node that a text names: an organisation.
-    pub fn read(_alloc: Global, text: &str) -> Result<Option<NodeName>, OutOfMemory>
+    /// The node that a text names: an organisation or a folder by its number, or a project by its number or its id.
+    pub fn read(alloc: Global, text: &str) -> Result<Option<NodeName>, OutOfMemory>
         ensures read { IfOk result (IsRead IsNodeName node_text text.now) }
         ensures back { IfOk result (ReadsBack IsNodeName node_text text.now) }
     {
-        if let Some(number) = number_behind("organizations/", text) {
-            return Ok(Some(NodeName::Organization(number)));
+        if let Some(node) = NodeId::read(text) {
+            return Ok(Some(node.name()));
         }
-        Ok(None)
+        let Some(id) = project_id_behind(text) else {
+            return Ok(None);
+        };
+        Ok(Some(NodeName::ProjectId(Text::of(alloc, id)?)))
     }
 
     pub fn text(&self, alloc: Global) -> Result<Text, OutOfMemory>

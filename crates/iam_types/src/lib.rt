@@ -30,7 +30,7 @@ pub use deny::{DenyPolicy, DenyRule};
 pub use explanation::{AllowLine, BoundLine, DenyLine, Explanation, Shown};
 pub use fact::{Fact, FactChange};
 pub use group::Edge;
-pub use node::{Node, Org, copy_org};
+pub use node::{Node, Org, copy_node, copy_org};
 pub use query::{Decision, Query, ResourceFacts};
 pub use refusal::{Fault, LimitName, Refusal};
 pub use role::{Role, Stage};
