@@ -4,6 +4,8 @@ use Rattle.std.specs.declared.option.Option.{Option}
 use Rattle.iam_text.specs.declared.moment.Moment.{Moment}
 use Rattle.iam_names.specs.declared.caller.Caller.{Caller}
 use Rattle.iam_names.specs.declared.node.NodeId.{NodeId}
+use Rattle.iam_names.specs.declared.node.NodeKind.{NodeKind}
+use Rattle.iam_names.specs.declared.node.NodeKind.TheVariants.{Folder, Project}
 use Rattle.iam_names.specs.declared.node.NodeName.{NodeName}
 use Rattle.iam_types.specs.declared.allow.Binding.{Binding}
 use Rattle.iam_types.specs.declared.command.Command.{Command}
@@ -36,12 +38,23 @@ asked_of_set_allow tables caller moment name bindings = record {
   operators = [];
 }
 
+-- whether the caller may create a node of the kind below a node
+abbrev pub create_query : Caller → Moment → NodeKind → NodeId → Query
+create_query caller moment kind parent = query_on caller moment [] (permission_at kind (codes "create")) parent
+
+abbrev pub asked_of_creation : Tables → Caller → Moment → NodeKind → NodeName → Asked
+asked_of_creation tables caller moment kind name = record {
+  permission = with_node tables name (λ parent. forbidden tables (create_query caller moment kind parent) ∷ []);
+  conditions = [];
+  operators = [];
+}
+
 -- what the decision and the conditions refuse of a command
 abbrev pub asked_by : Tables → Caller → Moment → Command → Asked
 asked_by tables caller moment (SetAllow node version etag bindings) = asked_of_set_allow tables caller moment node bindings
-asked_by tables caller moment (CreateFolder parent display) = nothing_asked
+asked_by tables caller moment (CreateFolder parent display) = asked_of_creation tables caller moment Folder parent
 asked_by tables caller moment (RenameFolder node display) = nothing_asked
-asked_by tables caller moment (CreateProject project parent display) = nothing_asked
+asked_by tables caller moment (CreateProject project parent display) = asked_of_creation tables caller moment Project parent
 asked_by tables caller moment (Move node to) = nothing_asked
 asked_by tables caller moment (DeleteNode node) = nothing_asked
 asked_by tables caller moment (UndeleteNode node) = nothing_asked

@@ -1,5 +1,5 @@
 -- The decision. No boundary policies and deny rules are kept yet, so it is that of the allow policies.
-use Rattle.std.specs.Prelude.{ℕ, Bool, ◌&&◌, List, map, flat_map, reverse}
+use Rattle.std.specs.Prelude.{ℕ, Bool, ◌&&◌, List, map, flat_map}
 use Rattle.std.specs.declared.cmp.Ordering.{Ordering}
 use Rattle.std.specs.List.{enumerate_from, find, list_any}
 use Rattle.std.specs.Option.{option_map_or}
@@ -14,7 +14,7 @@ use Rattle.iam_types.specs.declared.query.Decision.TheVariants.{Allowed, NotGran
 use Rattle.iam_types.specs.declared.query.Query.{Query}
 use Rattle.iam_types.specs.declared.tables.Tables.{Tables}
 use Rattle.iam_model.specs.Holds.{holds}
-use Rattle.iam_model.specs.Nodes.{path}
+use Rattle.iam_model.specs.Nodes.{way_up}
 use Rattle.iam_model.specs.Policies.{bindings_at}
 use Rattle.iam_model.specs.Roles.{grants}
 use Rattle.iam_law.specs.Shown.{lets_grant, shown}
@@ -56,4 +56,4 @@ binding_grants tables query binding =
 abbrev pub decide : Tables → Query → Decision
 decide tables query =
     option_map_or (λ line. Allowed line.node line.place)
-    (find (λ line. binding_grants tables query line.binding) (allow_lines tables (reverse (path tables query.node)))) NotGranted
+    (find (λ line. binding_grants tables query line.binding) (allow_lines tables (way_up tables.nodes query.node))) NotGranted

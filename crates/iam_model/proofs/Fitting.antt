@@ -1,12 +1,15 @@
 -- Rules among rules, and what a command that fits owes.
-use Rattle.std.proofs.Common.{◌≡◌, ℕ, suc, ◌+◌, ◌<◌, ◌≤◌, Bool, true, false, cond, List, ◌∷◌, Some, None, refl, subst, arith}
+use Rattle.std.proofs.Common.{◌≡◌, ℕ, suc, ◌+◌, ◌<◌, ◌≤◌, Bool, true, false, cond, List, [], ◌∷◌, Some, None, refl, ap, subst, arith}
 use Rattle.std.specs.Prelude.{nat_lt}
 use Rattle.std.specs.declared.option.Option.{Option}
 use Rattle.std.specs.List.{All}
+use Rattle.std.specs.Ordering.{match_ordering}
+use Rattle.std.specs.declared.cmp.Ordering.TheVariants.{Equal}
 use Rattle.std.proofs.lemmas.Bool.{leb-false}
-use Rattle.iam_text.specs.Put.{IsInOrder}
+use Rattle.iam_text.specs.Put.{put, IsInOrder}
 use Rattle.iam_types.specs.declared.fact.Fact.{Fact}
 use Rattle.iam_types.specs.declared.fact.FactChange.{FactChange}
+use Rattle.iam_types.specs.declared.node.Org.{Org}
 use Rattle.iam_types.specs.declared.refusal.LimitName.{LimitName}
 use Rattle.iam_types.specs.declared.refusal.Refusal.TheVariants.{Limit}
 use Rattle.iam_types.specs.declared.tables.Tables.{Tables}
@@ -14,6 +17,8 @@ use Rattle.iam_model.specs.Consistent.{Consistent, Keeps}
 use Rattle.iam_model.specs.Facts.{fact_order, facts_of, with_changes}
 use Rattle.iam_model.specs.Formed.{IsChange, IsFact}
 use Rattle.iam_model.specs.Limits.{beyond, limit_of}
+use Rattle.iam_model.specs.Part.{order_in}
+use Rattle.iam_model.specs.Parts.{org_part}
 use Rattle.iam_model.specs.Refusals.{Asked, Rules, first_of, first_refusal, nothing_asked}
 use Rattle.iam_model.proofs.Places.{changes_keep_formed, changes_keep_order}
 
@@ -77,6 +82,10 @@ pub record Leads (tables : Tables) (changes : List FactChange) (next : Tables) :
   pub leads : with_changes (facts_of tables) changes ≡ facts_of next
   pub keeps : Keeps next
   pub counted : next.org.changes ≡ tables.org.changes + 1
+
+-- another organisation in the place of this one
+pub org_put : (org new : Org) → order_in org_part new org ≡ Equal → put (order_in org_part) new (org ∷ []) ≡ new ∷ []
+org_put org new tied = ap (λ o. match_ordering o (new ∷ org ∷ []) (new ∷ []) (org ∷ new ∷ [])) tied
 
 pub leads_consistent : (tables : Tables) (changes : List FactChange) (next : Tables) → Consistent tables → Leads tables changes next → Consistent next
 leads_consistent tables changes next consistent are = record {

@@ -9,7 +9,7 @@ use Rattle.iam_types.specs.declared.node.Org.{Org}
 use Rattle.iam_types.specs.declared.tables.Tables.{Tables}
 use Rattle.iam_model.specs.Broken.{GiveTables, IsFirstBroken, IsFirstBrokenBy, IsOnlyOrg}
 use Rattle.iam_model.specs.Broken.IsFirstBroken.{one_org, apart as not_apart, tables as by_tables}
-use Rattle.iam_model.specs.Broken.IsFirstBrokenBy.{numbers, policies, limits, sets}
+use Rattle.iam_model.specs.Broken.IsFirstBrokenBy.{parents, folders, active, numbers, policies, limits, sets}
 use Rattle.iam_model.specs.Consistent.{Consistent, Keeps}
 use Rattle.iam_model.specs.Facts.{AreApart, fact_order, facts_of, sections_with, tables_with}
 use Rattle.iam_model.specs.Formed.{IsFact}
@@ -42,10 +42,13 @@ given_consistent facts tables formed given =
 -- ---- facts that break a rule give no tables
 
 broken_not_kept : (tables : Tables) (rule : ℕ) → Keeps tables → IsFirstBrokenBy tables rule → ⊥
-broken_not_kept tables rule keeps (numbers broken) = broken keeps.numbers
-broken_not_kept tables rule keeps (policies fit broken) = broken keeps.policies
-broken_not_kept tables rule keeps (limits fit stand broken) = broken keeps.limits
-broken_not_kept tables rule keeps (sets fit stand within broken) = broken keeps.sets
+broken_not_kept tables rule keeps (parents broken) = broken keeps.hierarchy.parents
+broken_not_kept tables rule keeps (folders lead broken) = broken keeps.hierarchy.folders
+broken_not_kept tables rule keeps (active lead fit broken) = broken keeps.hierarchy.active
+broken_not_kept tables rule keeps (numbers hierarchy broken) = broken keeps.numbers
+broken_not_kept tables rule keeps (policies hierarchy fit broken) = broken keeps.policies
+broken_not_kept tables rule keeps (limits hierarchy fit stand broken) = broken keeps.limits
+broken_not_kept tables rule keeps (sets hierarchy fit stand within broken) = broken keeps.sets
 
 pub broken_give_none : (facts : List Fact) (tables : Tables) (rule : ℕ) → GiveTables facts tables → IsFirstBroken facts rule → ⊥
 broken_give_none facts tables rule given (one_org broken) = broken (tables.org, given.org)

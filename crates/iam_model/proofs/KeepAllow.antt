@@ -1,78 +1,41 @@
 -- A policy that is set keeps the tables consistent.
 use Rattle.std.proofs.Common.{◌≡◌, ℕ, ◌+◌, ◌≤◌, true, false, not, cond, List, [], ◌∷◌, ◌++◌, filter, length, Some, None, refl, sym, ap, subst, ◌∙◌, arith}
-use Rattle.std.specs.Prelude.{is_none}
-use Rattle.std.specs.Bool.{◌==◌}
 use Rattle.std.specs.List.{All, find, flat_map}
-use Rattle.std.specs.Ordering.{match_ordering}
 use Rattle.std.specs.Option.{option_map, option_map_or}
 use Rattle.std.specs.declared.option.Option.{Option}
-use Rattle.std.proofs.lemmas.Bool.{and_parts, eq-eqb, eqb-true}
 use Rattle.std.proofs.lemmas.Cmp.{nat_list_cmp_total, tied_itself}
 use Rattle.std.proofs.lemmas.List.Elements.{All-cons, All-head, All-tail, All-nil, All-filter, All-weaker}
 use Rattle.std.proofs.lemmas.List.Sums.{sum_by-cons}
 use Rattle.iam_text.specs.Put.{put}
 use Rattle.iam_text.specs.declared.moment.Moment.{Moment}
 use Rattle.iam_text.proofs.InOrder.{All-put}
-use Rattle.iam_names.specs.Node.{node_text}
-use Rattle.iam_names.specs.Number.{IsNodeNumber}
 use Rattle.iam_names.specs.declared.member.Member.{Member}
-use Rattle.iam_names.specs.declared.node.NodeKind.{NodeKind}
-use Rattle.iam_names.specs.declared.node.NodeKind.TheVariants.{Organization as AnOrganization, Folder as AFolder, Project as AProject}
 use Rattle.iam_names.specs.declared.node.NodeId.{NodeId}
 use Rattle.iam_names.specs.declared.node.NodeName.{NodeName}
-use Rattle.iam_names.specs.declared.node.NodeName.TheVariants.{Organization, Folder, ProjectNumber, ProjectId}
 use Rattle.iam_types.specs.declared.allow.AllowPolicy.{AllowPolicy}
 use Rattle.iam_types.specs.declared.allow.Binding.{Binding}
 use Rattle.iam_types.specs.declared.fact.Fact.TheVariants as fact
 use Rattle.iam_types.specs.declared.fact.FactChange.TheVariants.{Put}
 use Rattle.iam_types.specs.declared.node.Org.{Org}
 use Rattle.iam_types.specs.declared.refusal.LimitName.TheVariants.{PolicyMembers, PolicyGroups, Members, Changes}
-use Rattle.iam_types.specs.declared.refusal.Refusal.TheVariants.{NotFound, RoleUnknown}
+use Rattle.iam_types.specs.declared.refusal.Refusal.TheVariants.{RoleUnknown}
 use Rattle.iam_types.specs.declared.tables.Tables.{Tables}
 use Rattle.iam_model.specs.Allow.{IsGiven, late_rules, middle_rules, policy_after, set_allow, set_changes, set_policy, unknown_role}
 use Rattle.iam_model.specs.Consistent.{Consistent, Keeps}
 use Rattle.iam_model.specs.Facts.{fact_order, facts_of, sections_with, with_changes}
 use Rattle.iam_model.specs.Formed.{IsChange, IsOrgFact, IsStored}
 use Rattle.iam_model.specs.Limits.{limit_of}
-use Rattle.iam_model.specs.Nodes.{exists, organization_of, resolve}
+use Rattle.iam_model.specs.Nodes.{exists, resolve}
 use Rattle.iam_model.specs.Part.{order_in}
 use Rattle.iam_model.specs.Parts.{allow_part, org_part}
 use Rattle.iam_model.specs.Policies.{count_all_members, count_groups, count_members, different, group_of, groups_in, has_members, is_empty_list, is_role}
-use Rattle.iam_model.specs.Refusals.{first_of, first_refusal, nothing_asked, refused_if}
-use Rattle.iam_model.specs.Same.{same_kind}
+use Rattle.iam_model.specs.Refusals.{first_of, first_refusal, nothing_asked}
 use Rattle.iam_model.specs.Sections.{all_facts}
 use Rattle.iam_model.specs.Shared.{changed, missing}
-use Rattle.iam_model.proofs.Fitting.{Fine, Leads, fine, first_of-None, within_limit}
+use Rattle.iam_model.proofs.Existing.{existing_formed, not_missing, resolved_exists}
+use Rattle.iam_model.proofs.Fitting.{Fine, Leads, fine, first_of-None, org_put, within_limit}
 use Rattle.iam_model.proofs.Lists.{org_formed}
 use Rattle.iam_model.proofs.Parts.{put_allow, put_org}
-
--- a node that is found by a name exists
-pub resolved_exists : (tables : Tables) (name : NodeName) (node : NodeId) → resolve tables name ≡ Some node → exists tables node ≡ true
-resolved_exists tables (Organization number) node found =
-    elim (number == tables.org.number) as (λ b. cond b (Some (organization_of tables)) None ≡ Some node → exists tables node ≡ true) [
-      | true ↦ λ is. let same : organization_of tables ≡ node = cc in subst (λ (n : NodeId). exists tables n ≡ true) same (eq-eqb tables.org.number tables.org.number refl)
-      | false ↦ λ is. absurd (cc)
-    ] found
-resolved_exists tables (Folder number) node found = absurd (cc)
-resolved_exists tables (ProjectNumber number) node found = absurd (cc)
-resolved_exists tables (ProjectId id) node found = absurd (cc)
-
-kind_is_organization : (kind : NodeKind) → same_kind kind AnOrganization ≡ true → kind ≡ AnOrganization
-kind_is_organization AnOrganization h = refl
-kind_is_organization AFolder h = absurd (cc)
-kind_is_organization AProject h = absurd (cc)
-
--- a node that exists is the organisation
-pub existing_node : (tables : Tables) (node : NodeId) → exists tables node ≡ true → (node.kind ≡ AnOrganization) × (node.number ≡ tables.org.number)
-existing_node tables node there =
-    let parts = and_parts (same_kind node.kind AnOrganization) (node.number == tables.org.number) there in
-    (kind_is_organization node.kind parts.0, eqb-true node.number tables.org.number parts.1)
-
--- a node that isn't found is missing
-not_missing : (tables : Tables) (name : NodeName) → resolve tables name ≡ None → missing tables name ≡ None → ⊥
-not_missing tables name is fine =
-    let refused : refused_if true (NotFound (node_text name)) ≡ None = subst (λ (o : Option NodeId). refused_if (is_none o) (NotFound (node_text name)) ≡ None) is fine in
-    absurd (cc)
 
 -- what is kept of the given bindings can be stored
 pub kept_stored : (bindings : List Binding) → All IsGiven bindings → All IsStored (filter has_members bindings)
@@ -131,7 +94,18 @@ set_keeps tables node bindings keeps there roles few few_groups all_few changes 
     let policy : AllowPolicy = policy_after tables node bindings in
     let counts : count_members (filter has_members bindings) ≤ count_members bindings = kept_counts bindings in
     record {
-      numbers = record { first = keeps.numbers.first; last = omega (arith, keeps.numbers.last) };
+      hierarchy = record {
+        parents = keeps.hierarchy.parents;
+        folders = record { depths = keeps.hierarchy.folders.depths; names = keeps.hierarchy.folders.names };
+        active = keeps.hierarchy.active;
+      };
+      numbers = record {
+        projects = keeps.numbers.projects;
+        nodes = keeps.numbers.nodes;
+        given = keeps.numbers.given;
+        first = keeps.numbers.first;
+        last = omega (arith, keeps.numbers.last);
+      };
       policies = record {
         nodes = All-put (λ (p : AllowPolicy). exists tables p.node ≡ true) (order_in allow_part) policy tables.allows there keeps.policies.nodes;
         roles = All-put (λ (p : AllowPolicy). All (λ (b : Binding). is_role tables b.role ≡ true) p.bindings) (order_in allow_part) policy tables.allows
@@ -140,6 +114,8 @@ set_keeps tables node bindings keeps there roles few few_groups all_few changes 
       limits = record {
         policies = All-put (λ (p : AllowPolicy). count_members p.bindings ≤ limit_of PolicyMembers) (order_in allow_part) policy tables.allows (omega (arith, counts, few)) keeps.limits.policies;
         groups = All-put (λ (p : AllowPolicy). count_groups p.bindings ≤ limit_of PolicyGroups) (order_in allow_part) policy tables.allows (subst (λ (n : ℕ). n ≤ limit_of PolicyGroups) (sym (kept_counts_groups bindings)) few_groups) keeps.limits.groups;
+        folders = keeps.limits.folders;
+        nodes = keeps.limits.nodes;
         members = all_few;
         changes = changes;
       };
@@ -147,25 +123,20 @@ set_keeps tables node bindings keeps there roles few few_groups all_few changes 
           (All-weaker (λ (p : AllowPolicy). (1 ≤ p.set) × (p.set ≤ tables.org.changes)) (λ (p : AllowPolicy). (1 ≤ p.set) × (p.set ≤ tables.org.changes + 1)) (λ p set. (set.0, omega (arith, set.1))) tables.allows keeps.sets);
     }
 
--- one more change is put over the organisation
-changed_put : (org : Org) → put (order_in org_part) (changed org) (org ∷ []) ≡ changed org ∷ []
-changed_put org = ap (λ o. match_ordering o (changed org ∷ org ∷ []) (changed org ∷ []) (org ∷ changed org ∷ [])) (tied_itself nat_list_cmp_total (org_part.key org))
-
 set_leads : (tables : Tables) (node : NodeId) (bindings : List Binding) → with_changes (facts_of tables) (set_changes tables node bindings) ≡ facts_of (set_policy tables node bindings)
 set_leads tables node bindings =
     let policy : AllowPolicy = policy_after tables node bindings in
     let put_there : Tables = record tables { allows = put (order_in allow_part) policy tables.allows } in
     ap (put fact_order (fact.Org (changed tables.org))) (put_allow policy (tables.org ∷ []) tables)
     ∙ put_org (changed tables.org) (tables.org ∷ []) put_there
-    ∙ ap (λ (orgs : List Org). all_facts (sections_with orgs put_there)) (changed_put tables.org)
+    ∙ ap (λ (orgs : List Org). all_facts (sections_with orgs put_there)) (org_put tables.org (changed tables.org) (tied_itself nat_list_cmp_total (org_part.key tables.org)))
 
 set_formed : (tables : Tables) (node : NodeId) (bindings : List Binding) → Consistent tables → exists tables node ≡ true → All IsGiven bindings → All IsChange (set_changes tables node bindings)
 set_formed tables node bindings consistent there given =
-    let is = existing_node tables node there in
     let org : IsOrgFact tables.org = org_formed tables consistent in
     let limit = consistent.keeps.limits.changes in
     All-cons IsChange (Put (fact.Allow (policy_after tables node bindings))) (Put (fact.Org (changed tables.org)) ∷ [])
-    (record { kind = is.0; number = subst IsNodeNumber (sym is.1) org.formed.number; bindings = kept_stored bindings given; set = omega (arith, limit) })
+    (record { node = existing_formed tables node consistent there; bindings = kept_stored bindings given; set = omega (arith, limit) })
     (All-cons IsChange (Put (fact.Org (changed tables.org))) [] (record {
       formed = record { number = org.formed.number; domain = org.formed.domain; customer = org.formed.customer };
       next = org.next;

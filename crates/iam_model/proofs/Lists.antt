@@ -7,16 +7,17 @@ use Rattle.iam_text.specs.Put.{put, placed}
 use Rattle.iam_types.specs.declared.allow.AllowPolicy.{AllowPolicy}
 use Rattle.iam_types.specs.declared.fact.Fact.{Fact}
 use Rattle.iam_types.specs.declared.fact.Fact.TheVariants as fact
+use Rattle.iam_types.specs.declared.node.Node.{Node}
 use Rattle.iam_types.specs.declared.node.Org.{Org}
 use Rattle.iam_types.specs.declared.tables.Tables.{Tables}
 use Rattle.iam_model.specs.Consistent.{Consistent, NothingElse}
-use Rattle.iam_model.specs.Facts.{AreApart, facts_of, same_place, tables_with}
-use Rattle.iam_model.specs.Formed.{IsFact, IsOrgFact, IsPolicyFact}
+use Rattle.iam_model.specs.Facts.{AreApart, fact_order, facts_of, same_place, tables_with}
+use Rattle.iam_model.specs.Formed.{IsFact, IsNodeFact, IsOrgFact, IsPolicyFact}
 use Rattle.iam_model.specs.Part.{AreApartBy, Part, order_in, rows_in, table_of}
 use Rattle.iam_model.specs.Parts.{allow_part, bound_part, boundary_part, deny_part, edge_part, group_part, key_part, node_part, org_part, role_part, tag_part, value_part}
 use Rattle.iam_model.proofs.Parted.{IsPart, wrap_order}
 use Rattle.iam_model.proofs.Parts.{allow_back, bound_back, boundary_back, deny_back, edge_back, group_back, key_back, node_back, org_back, role_back, tag_back, value_back, is_allow, is_bound, is_boundary, is_deny, is_edge, is_group, is_key, is_node, is_org, is_role, is_tag, is_value}
-use Rattle.iam_model.proofs.Placing.{All-placed, put_apart, put_some}
+use Rattle.iam_model.proofs.Placing.{All-placed, ordered_apart, put_apart, put_some}
 
 -- what holds of facts holds of the rows of a part among them
 pub rows_hold : {A : Type 0} (p : Part A) → IsPart A p → (P : Fact → Type 0) (facts : List Fact) → All P facts → All (λ row. P (p.wrap row)) (rows_in p facts)
@@ -38,6 +39,9 @@ org_formed t consistent = All-head IsOrgFact t.org [] (subst (λ (orgs : List Or
 pub policies_formed : (t : Tables) → Consistent t → All IsPolicyFact t.allows
 policies_formed t consistent = subst (λ (rows : List AllowPolicy). All IsPolicyFact rows) (allow_back (t.org ∷ []) t) (rows_hold allow_part is_allow IsFact (facts_of t) consistent.formed)
 
+pub nodes_formed : (t : Tables) → Consistent t → All IsNodeFact t.nodes
+nodes_formed t consistent = subst (λ (rows : List Node). All IsNodeFact rows) (node_back (t.org ∷ []) t) (rows_hold node_part is_node IsFact (facts_of t) consistent.formed)
+
 none : {A : Type 0} (rows : List A) → All (λ row. ⊥) rows → rows ≡ []
 none [] all = refl
 none {A} (row ∷ rows) all = absurd (All-head (λ (r : A). ⊥) row rows all)
@@ -57,7 +61,6 @@ nothing_else t consistent =
       edges = none_kept edge_part is_edge (λ row h. h) (facts_of t) formed t.edges (edge_back (t.org ∷ []) t);
       groups = none_kept group_part is_group (λ row h. h) (facts_of t) formed t.groups (group_back (t.org ∷ []) t);
       keys = none_kept key_part is_key (λ row h. h) (facts_of t) formed t.keys (key_back (t.org ∷ []) t);
-      nodes = none_kept node_part is_node (λ row h. h) (facts_of t) formed t.nodes (node_back (t.org ∷ []) t);
       roles = none_kept role_part is_role (λ row h. h) (facts_of t) formed t.roles (role_back (t.org ∷ []) t);
       tags = none_kept tag_part is_tag (λ row h. h) (facts_of t) formed t.tags (tag_back (t.org ∷ []) t);
       values = none_kept value_part is_value (λ row h. h) (facts_of t) formed t.values (value_back (t.org ∷ []) t);
@@ -75,17 +78,16 @@ nothing_else_given facts org formed = record {
   edges = none_given edge_part is_edge (λ row h. h) facts formed;
   groups = none_given group_part is_group (λ row h. h) facts formed;
   keys = none_given key_part is_key (λ row h. h) facts formed;
-  nodes = none_given node_part is_node (λ row h. h) facts formed;
   roles = none_given role_part is_role (λ row h. h) facts formed;
   tags = none_given tag_part is_tag (λ row h. h) facts formed;
   values = none_given value_part is_value (λ row h. h) facts formed;
 }
 
 -- the facts of tables of nothing else
-pub facts_are_few : (t : Tables) → Consistent t → facts_of t ≡ map (λ policy. fact.Allow policy) t.allows ++ fact.Org t.org ∷ []
+pub facts_are_few : (t : Tables) → Consistent t → facts_of t ≡ map (λ policy. fact.Allow policy) t.allows ++ (map (λ node. fact.Node node) t.nodes ++ fact.Org t.org ∷ [])
 facts_are_few t consistent =
     let else : NothingElse t = nothing_else t consistent in
-    rw (else.bounds, else.boundaries, else.denies, else.edges, else.groups, else.keys, else.nodes, else.roles, else.tags, else.values) refl
+    rw (else.bounds, else.boundaries, else.denies, else.edges, else.groups, else.keys, else.roles, else.tags, else.values) refl
 
 -- ---- the one organisation
 
@@ -102,6 +104,11 @@ rows_apart {A} p is (fact ∷ facts) apart = elim (is.own fact) [
       (rows_hold p is (λ (f : Fact). same_place (p.wrap owned.0) f ≡ false) facts others) in
       rw out (rows, rows_apart p is facts apart.1)
 ]
+
+-- the nodes of consistent tables stand in places of their own
+pub nodes_apart : (t : Tables) → Consistent t → AreApartBy (order_in node_part) t.nodes
+nodes_apart t consistent =
+    subst (λ (rows : List Node). AreApartBy (order_in node_part) rows) (node_back (t.org ∷ []) t) (rows_apart node_part is_node (facts_of t) (ordered_apart fact_order (facts_of t) consistent.ordered))
 
 -- rows apart that leave one in its place are this one
 only_row : {A : Type 0} (p : Part A) (rows : List A) (x : A) → AreApartBy (order_in p) rows → placed (order_in p) rows ≡ x ∷ [] → rows ≡ x ∷ []

@@ -25,7 +25,7 @@ use Rattle.iam_model.specs.Part.{order_in}
 use Rattle.iam_model.specs.Parts.{allow_part}
 use Rattle.iam_model.specs.Policies.{any_conditional, bindings_at, count_all_members, count_groups, count_members, etag_of, has_members, is_role}
 use Rattle.iam_model.specs.Refusals.{refused_if}
-use Rattle.iam_model.specs.Shared.{changed, is_version, many_changes, missing, other_etag, with_node}
+use Rattle.iam_model.specs.Shared.{changed, inactive, is_version, many_changes, missing, other_etag, with_node}
 
 -- a binding as a request gives it: it may be without members, and has no condition yet
 pub record IsGiven (binding : Binding) : Type 0 where
@@ -86,7 +86,7 @@ set_allow name version etag bindings = record {
   given = IsNodeName name × All IsGiven bindings;
   rules = λ moment tables. record {
     names = missing tables name ∷ [];
-    active = [];
+    active = with_node tables name (λ node. inactive tables name node ∷ []);
     fresh = [];
     early = with_node tables name (λ node. early_rules tables node version etag bindings);
     middle = with_node tables name (λ node. middle_rules tables bindings);

@@ -3,7 +3,7 @@ use Rattle.std.specs.Prelude.{◌≡◌, ℕ, List, [], ◌∷◌}
 use Rattle.iam_types.specs.declared.fact.Fact.{Fact}
 use Rattle.iam_types.specs.declared.node.Org.{Org}
 use Rattle.iam_types.specs.declared.tables.Tables.{Tables}
-use Rattle.iam_model.specs.Consistent.{Keeps, NumbersFit, PoliciesStand, SetByChanges, WithinLimits}
+use Rattle.iam_model.specs.Consistent.{FoldersFit, HierarchyStands, Keeps, NumbersFit, ParentsAreActive, ParentsLead, PoliciesStand, SetByChanges, WithinLimits}
 use Rattle.iam_model.specs.Facts.{AreApart, tables_with}
 use Rattle.iam_model.specs.Part.{rows_in}
 use Rattle.iam_model.specs.Parts.{org_part}
@@ -25,10 +25,13 @@ pub record GiveTables (facts : List Fact) (tables : Tables) : Type 0 where
 
 -- the first rule that tables break, by its number
 pub data IsFirstBrokenBy (tables : Tables) : ℕ → Type 0 where
-  numbers : ¬ NumbersFit tables → IsFirstBrokenBy tables 6
-  policies : NumbersFit tables → ¬ PoliciesStand tables → IsFirstBrokenBy tables 10
-  limits : NumbersFit tables → PoliciesStand tables → ¬ WithinLimits tables → IsFirstBrokenBy tables 13
-  sets : NumbersFit tables → PoliciesStand tables → WithinLimits tables → ¬ SetByChanges tables → IsFirstBrokenBy tables 14
+  parents : ¬ ParentsLead tables → IsFirstBrokenBy tables 3
+  folders : ParentsLead tables → ¬ FoldersFit tables → IsFirstBrokenBy tables 4
+  active : ParentsLead tables → FoldersFit tables → ¬ ParentsAreActive tables → IsFirstBrokenBy tables 5
+  numbers : HierarchyStands tables → ¬ NumbersFit tables → IsFirstBrokenBy tables 6
+  policies : HierarchyStands tables → NumbersFit tables → ¬ PoliciesStand tables → IsFirstBrokenBy tables 10
+  limits : HierarchyStands tables → NumbersFit tables → PoliciesStand tables → ¬ WithinLimits tables → IsFirstBrokenBy tables 13
+  sets : HierarchyStands tables → NumbersFit tables → PoliciesStand tables → WithinLimits tables → ¬ SetByChanges tables → IsFirstBrokenBy tables 14
 
 -- the first rule that facts break, by its number
 pub data IsFirstBroken (facts : List Fact) : ℕ → Type 0 where

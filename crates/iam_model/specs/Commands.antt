@@ -10,14 +10,15 @@ use Rattle.iam_text.specs.Moments.{IsMoment}
 use Rattle.iam_names.specs.Caller.{IsCaller}
 use Rattle.std.specs.Prelude.{List}
 use Rattle.iam_model.specs.Allow.{set_allow}
+use Rattle.iam_model.specs.Creation.{create_folder, create_project}
 use Rattle.iam_model.specs.Meaning.{Meaning, not_yet}
 use Rattle.iam_model.specs.Refusals.{Rules, first_refusal, nothing_asked}
 
 abbrev pub meaning_of : Command → Meaning
 meaning_of (SetAllow node version etag bindings) = set_allow node version etag bindings
-meaning_of (CreateFolder parent display) = not_yet
+meaning_of (CreateFolder parent display) = create_folder parent display
 meaning_of (RenameFolder node display) = not_yet
-meaning_of (CreateProject project parent display) = not_yet
+meaning_of (CreateProject project parent display) = create_project project parent display
 meaning_of (Move node to) = not_yet
 meaning_of (DeleteNode node) = not_yet
 meaning_of (UndeleteNode node) = not_yet

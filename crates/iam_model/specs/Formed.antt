@@ -1,16 +1,21 @@
 -- Which facts are well formed. Those of the kinds that no command makes yet never are.
-use Rattle.std.specs.Prelude.{◌≡◌, ◌<◌, ◌^◌, true, None, All}
+use Rattle.std.specs.Prelude.{◌≡◌, ℕ, ◌<◌, ◌^◌, true, List, Some, None, All}
+use Rattle.std.specs.declared.option.Option.{Option}
+use Rattle.iam_names.specs.Display.{IsFolderDisplay, IsProjectDisplay}
 use Rattle.iam_names.specs.Domain.{IsDomain, IsCustomer}
 use Rattle.iam_names.specs.Member.{IsMember}
+use Rattle.iam_names.specs.Node.{IsNodeId, IsProjectId}
 use Rattle.iam_names.specs.Number.{IsNodeNumber}
 use Rattle.iam_names.specs.Role.{IsRoleName}
-use Rattle.iam_names.specs.declared.node.NodeKind.TheVariants.{Organization}
+use Rattle.iam_names.specs.declared.node.NodeKind.{NodeKind}
+use Rattle.iam_names.specs.declared.node.NodeKind.TheVariants.{Organization, Folder, Project}
 use Rattle.iam_types.specs.declared.allow.AllowPolicy.{AllowPolicy}
 use Rattle.iam_types.specs.declared.allow.Binding.{Binding}
 use Rattle.iam_types.specs.declared.fact.Fact.{Fact}
 use Rattle.iam_types.specs.declared.fact.Fact.TheVariants as fact
 use Rattle.iam_types.specs.declared.fact.FactChange.{FactChange}
 use Rattle.iam_types.specs.declared.fact.FactChange.TheVariants.{Put, Cut}
+use Rattle.iam_types.specs.declared.node.Node.{Node}
 use Rattle.iam_types.specs.declared.node.Org.{Org}
 use Rattle.iam_model.specs.Policies.{has_members}
 
@@ -32,16 +37,28 @@ pub record IsOrgFact (org : Org) : Type 0 where
   pub next : org.next < 2 ^ 64
   pub changes : org.changes < 2 ^ 64
 
--- the policy of an organisation, whose bindings are stored
+-- a folder without a project's id, or a project with its id; each is shown by a name of its own form
+abbrev pub HasNodeForm : NodeKind → List ℕ → Option (List ℕ) → Type 0
+HasNodeForm Organization display project = ⊥
+HasNodeForm Folder display None = IsFolderDisplay display
+HasNodeForm Folder display (Some id) = ⊥
+HasNodeForm Project display None = ⊥
+HasNodeForm Project display (Some id) = IsProjectId id × IsProjectDisplay display
+
+pub record IsNodeFact (node : Node) : Type 0 where
+  pub id : IsNodeId node.id
+  pub parent : IsNodeId node.parent
+  pub form : HasNodeForm node.id.kind node.display node.project
+
+-- the policy of a node, whose bindings are stored
 pub record IsPolicyFact (policy : AllowPolicy) : Type 0 where
-  pub kind : policy.node.kind ≡ Organization
-  pub number : IsNodeNumber policy.node.number
+  pub node : IsNodeId policy.node
   pub bindings : All IsStored policy.bindings
   pub set : policy.set < 2 ^ 64
 
 abbrev pub IsFact : Fact → Type 0
 IsFact (fact.Org org) = IsOrgFact org
-IsFact (fact.Node node) = ⊥
+IsFact (fact.Node node) = IsNodeFact node
 IsFact (fact.Key key) = ⊥
 IsFact (fact.Value value) = ⊥
 IsFact (fact.Tag binding) = ⊥

@@ -3,8 +3,10 @@ pub mod Broken
 pub mod Catalogue
 pub mod Commands
 pub mod Consistent
+pub mod Creation
 pub mod Facts
 pub mod Formed
+pub mod Hierarchy
 pub mod Holds
 pub mod Limits
 pub mod Meaning
@@ -12,6 +14,7 @@ pub mod Nodes
 pub mod Opening
 pub mod Part
 pub mod Parts
+pub mod Path
 pub mod Policies
 pub mod Presets
 pub mod Refusals

@@ -8,10 +8,10 @@ use Rattle.iam_names.specs.declared.node.NodeName.{NodeName}
 use Rattle.iam_types.specs.declared.node.Org.{Org}
 use Rattle.iam_types.specs.declared.refusal.LimitName.TheVariants.{Changes}
 use Rattle.iam_types.specs.declared.refusal.Refusal.{Refusal}
-use Rattle.iam_types.specs.declared.refusal.Refusal.TheVariants.{NotFound, EtagMismatch}
+use Rattle.iam_types.specs.declared.refusal.Refusal.TheVariants.{NotFound, NotActive, EtagMismatch}
 use Rattle.iam_types.specs.declared.tables.Tables.{Tables}
 use Rattle.iam_model.specs.Limits.{beyond}
-use Rattle.iam_model.specs.Nodes.{resolve}
+use Rattle.iam_model.specs.Nodes.{is_active, resolve}
 use Rattle.iam_model.specs.Refusals.{refused_if}
 
 -- the node isn't there
@@ -21,6 +21,10 @@ missing tables name = refused_if (is_none (resolve tables name)) (NotFound (node
 -- the rules behind a node that must be there
 abbrev pub with_node : Tables → NodeName → (NodeId → List (Option Refusal)) → List (Option Refusal)
 with_node tables name rules = option_map_or rules (resolve tables name) []
+
+-- the node of this name isn't ACTIVE
+abbrev pub inactive : Tables → NodeName → NodeId → Option Refusal
+inactive tables name node = refused_if (not (is_active tables.nodes node)) (NotActive (node_text name))
 
 -- another etag than the current one was given
 abbrev pub other_etag : ℕ → Option ℕ → Option Refusal

@@ -1,20 +1,28 @@
-ghost use Rattle.std.specs.Prelude.{◌≡◌, ◌↔◌, ℕ, ◌+◌, ◌++◌, ◌∷◌, [], ◌<◌, ◌^◌, List, Some, None, All, Contains, length, map};
+ghost use Rattle.std.specs.Prelude.{◌≡◌, ◌↔◌, ℕ, ◌+◌, ◌++◌, ◌∷◌, [], ◌<◌, ◌≤◌, ◌^◌, true, List, Some, None, All, Contains, length, map};
+ghost use Rattle.std.specs.declared.option.Option.{Option};
 ghost use Rattle.iam_text.specs.Put.{placed, IsInOrder};
+ghost use Rattle.iam_names.specs.declared.node.NodeId.{NodeId};
+ghost use Rattle.iam_names.specs.declared.node.NodeKind.{NodeKind};
+ghost use Rattle.iam_names.specs.declared.node.NodeName.{NodeName};
 ghost use Rattle.iam_names.specs.declared.node.NodeName.TheVariants.{Organization};
 ghost use Rattle.iam_types.specs.declared.command.Entry.{Entry};
 ghost use Rattle.iam_types.specs.declared.fact.Fact.{Fact};
 ghost use Rattle.iam_types.specs.declared.fact.Fact.TheVariants as fact;
 ghost use Rattle.iam_types.specs.declared.fact.FactChange.TheVariants.{Put};
+ghost use Rattle.iam_types.specs.declared.node.Node.{Node};
 ghost use Rattle.iam_types.specs.declared.node.Org.{Org};
 ghost use Rattle.iam_types.specs.declared.tables.Opening.{Opening};
 ghost use Rattle.iam_types.specs.declared.tables.Tables.{Tables};
 ghost use Rattle.iam_model.specs.Broken.{GiveTables, IsFirstBroken, IsOnlyOrg};
 ghost use Rattle.iam_model.specs.Commands.{IsEntry, after, changes_of, fits};
 ghost use Rattle.iam_model.specs.Consistent.{Consistent, NothingElse};
+ghost use Rattle.iam_model.specs.Creation.{added, new_folder, new_node};
 ghost use Rattle.iam_model.specs.Facts.{AreApart, fact_order, facts_of, tables_with, with_changes};
-ghost use Rattle.iam_model.specs.Formed.{IsChange, IsFact, IsPolicyFact};
-ghost use Rattle.iam_model.specs.Nodes.{organization_of, resolve};
+ghost use Rattle.iam_model.specs.Formed.{IsChange, IsFact, IsNodeFact, IsPolicyFact};
+ghost use Rattle.iam_model.specs.Hierarchy.{are_namesakes, count_folders, is_alone, is_led_up};
+ghost use Rattle.iam_model.specs.Nodes.{children_of, depth_below, exists, longest_path, organization_of, path, resolve};
 ghost use Rattle.iam_model.specs.Opening.{IsOpening, opening_tables};
+ghost use Rattle.iam_model.specs.Path.{AreChildren, IsPath};
 ghost use Rattle.iam_model.specs.Refusals.{Asked, Rules, first_refusal, nothing_asked};
 
 /// The opening's tables keep all rules.
@@ -25,6 +33,37 @@ pub fn openings_are_consistent()
 /// The organisation is found by its name.
 pub fn organization_is_named()
     ensures { (tables : Tables) → resolve tables (Organization tables.org.number) ≡ Some (organization_of tables) }
+{}
+
+/// A node that is found by a name exists.
+pub fn named_nodes_exist()
+    ensures { (tables : Tables) (name : NodeName) (node : NodeId) → resolve tables name ≡ Some node → exists tables node ≡ true }
+{}
+
+/// A node that exists has a path, of at most twelve nodes.
+pub fn paths_stand()
+    ensures path { (tables : Tables) (node : NodeId) → Consistent tables → exists tables node ≡ true → IsPath tables node (path tables node) }
+    ensures few { (tables : Tables) (node : NodeId) → length (path tables node) ≤ longest_path }
+{}
+
+/// It has no other.
+pub fn paths_are_one()
+    ensures { (tables : Tables) (node : NodeId) (a b : List NodeId) → Consistent tables → IsPath tables node a → IsPath tables node b → a ≡ b }
+{}
+
+/// Parents that lead to the root do so in no more steps than there are rows.
+pub fn ways_are_short()
+    ensures { (root : NodeId) (nodes : List Node) (node : NodeId) (steps : ℕ) → is_led_up steps root nodes node ≡ true → is_led_up (length nodes) root nodes node ≡ true }
+{}
+
+/// A list of children has exactly the ACTIVE ones, in the order of their numbers.
+pub fn children_are_listed()
+    ensures { (tables : Tables) (kind : NodeKind) (parent : NodeId) → Consistent tables → AreChildren tables kind parent (children_of tables.nodes kind parent) }
+{}
+
+/// The nodes of consistent tables are well formed.
+pub fn nodes_are_formed()
+    ensures { (tables : Tables) → Consistent tables → All IsNodeFact tables.nodes }
 {}
 
 /// The policies of consistent tables are well formed.
@@ -62,24 +101,32 @@ pub fn changes_lead()
     ensures { (tables : Tables) (entry : Entry) → Consistent tables → IsEntry entry → fits tables entry ≡ None → with_changes (facts_of tables) (changes_of tables entry) ≡ facts_of (after tables entry) }
 {}
 
+/// A new folder or project is one more row. The folders with its parent, its depth and its namesakes are those before it, and it.
+pub fn new_nodes_are_counted()
+    ensures nodes { (tables : Tables) (kind : NodeKind) (parent : NodeId) (display : List ℕ) (project : Option (List ℕ)) → Consistent tables → length (added (new_node tables kind parent display project) tables.nodes) ≡ length tables.nodes + 1 }
+    ensures folders { (tables : Tables) (parent : NodeId) (display : List ℕ) → Consistent tables → count_folders (added (new_folder tables parent display) tables.nodes) parent ≡ count_folders tables.nodes parent + 1 }
+    ensures depth { (tables : Tables) (parent : NodeId) (display : List ℕ) → Consistent tables → exists tables parent ≡ true → depth_below (added (new_folder tables parent display) tables.nodes) parent ≡ depth_below tables.nodes parent }
+    ensures names { (tables : Tables) (parent : NodeId) (display : List ℕ) → Consistent tables → is_alone are_namesakes (added (new_folder tables parent display) tables.nodes) (new_folder tables parent display) ≡ is_alone are_namesakes tables.nodes (new_folder tables parent display) }
+{}
+
 /// The facts that a change that fits puts and cuts are well formed.
 pub fn changes_are_formed()
     ensures { (tables : Tables) (entry : Entry) → Consistent tables → IsEntry entry → fits tables entry ≡ None → All IsChange (changes_of tables entry) }
 {}
 
-/// Policies and the organisation are all that is kept yet.
+/// Policies, nodes and the organisation are all that is kept yet.
 pub fn nothing_else_is_kept()
     ensures { (tables : Tables) → Consistent tables → NothingElse tables }
 {}
 
-/// Well formed facts give policies and the organisation alone.
+/// Well formed facts give policies, nodes and the organisation alone.
 pub fn nothing_else_is_given()
     ensures { (facts : List Fact) (org : Org) → All IsFact facts → NothingElse (tables_with org facts) }
 {}
 
-/// Policies and the organisation are all facts yet.
+/// Policies, nodes and the organisation are all facts yet.
 pub fn facts_are_few()
-    ensures { (tables : Tables) → Consistent tables → facts_of tables ≡ map (λ policy. fact.Allow policy) tables.allows ++ fact.Org tables.org ∷ [] }
+    ensures { (tables : Tables) → Consistent tables → facts_of tables ≡ map (λ policy. fact.Allow policy) tables.allows ++ (map (λ node. fact.Node node) tables.nodes ++ fact.Org tables.org ∷ []) }
 {}
 
 /// Tables are told by their facts.
