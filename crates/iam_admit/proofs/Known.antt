@@ -1,4 +1,4 @@
--- The permissions of the settings of policies are in the catalogue.
+-- The permissions that commands need are in the catalogue.
 use Rattle.std.specs.Prelude.{IsTrue, codes}
 use Rattle.std.proofs.Common.{refl}
 use Rattle.iam_names.specs.declared.node.NodeKind.{NodeKind}
@@ -11,3 +11,11 @@ unfolding lines permits
 set_is_known Organization = refl
 set_is_known Folder = refl
 set_is_known Project = refl
+
+pub folder_creation_is_known : IsTrue (is_permission (codes "resourcemanager.folders.create"))
+unfolding lines permits
+folder_creation_is_known = refl
+
+pub project_creation_is_known : IsTrue (is_permission (codes "resourcemanager.projects.create"))
+unfolding lines permits
+project_creation_is_known = refl

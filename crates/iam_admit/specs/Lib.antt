@@ -1,3 +1,4 @@
+pub mod Creating
 pub mod Facts
 pub mod Follows
 pub mod Given

@@ -7,6 +7,7 @@ ghost use Rattle.iam_admit.specs.Facts.{LeadTo};
 ghost use Rattle.iam_admit.specs.Follows.{Follows};
 
 use crate::allow::set_allow;
+use crate::creation::{create_folder, create_project};
 use crate::stop::AdmitStop;
 use iam_judge::Index;
 use iam_law::accepted_entries_fit;
@@ -33,9 +34,15 @@ fn changes_of(alloc: Global, index: &Index, entry: &Entry) -> Result<List<FactCh
             etag,
             bindings,
         } => set_allow(alloc, index, entry, node, *version, *etag, bindings),
-        Command::CreateFolder { .. }
-        | Command::RenameFolder { .. }
-        | Command::CreateProject { .. }
+        Command::CreateFolder { parent, display } => create_folder(
+            alloc, index, entry, parent, display,
+        ),
+        Command::CreateProject {
+            project,
+            parent,
+            display,
+        } => create_project(alloc, index, entry, project, parent, display),
+        Command::RenameFolder { .. }
         | Command::Move { .. }
         | Command::DeleteNode { .. }
         | Command::UndeleteNode { .. }

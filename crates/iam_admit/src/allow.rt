@@ -1,5 +1,5 @@
 // The rules of the setting of an allow policy, a function each.
-ghost use Rattle.std.specs.Prelude.{◌≡◌, ◌+◌, ◌<◌, ◌^◌, not, IfOk, Some};
+ghost use Rattle.std.specs.Prelude.{◌≡◌, ◌+◌, ◌<◌, ◌^◌, [], ◌∷◌, map, not, IfOk, Some};
 ghost use Rattle.std.specs.List.{find};
 ghost use Rattle.std.specs.Option.{option_copied};
 ghost use Rattle.iam_types.specs.declared.refusal.LimitName.TheVariants.{Members, PolicyGroups, PolicyMembers};
@@ -7,14 +7,14 @@ ghost use Rattle.iam_model.specs.Allow as spec;
 ghost use Rattle.iam_model.specs.Limits.{beyond};
 ghost use Rattle.iam_model.specs.Nodes.{resolve};
 ghost use Rattle.iam_model.specs.Policies as policy_spec;
-ghost use Rattle.iam_model.specs.Refusals.{first_refusal};
-ghost use Rattle.iam_model.specs.Shared.{many_changes, other_etag};
+ghost use Rattle.iam_model.specs.Refusals.{first_of, first_refusal};
+ghost use Rattle.iam_model.specs.Shared.{other_etag};
 ghost use Rattle.iam_law.specs.Admit.{asked_of_set_allow};
 ghost use Rattle.iam_admit.specs.Follows.{Follows};
 
 use crate::changes::set_changes;
 use crate::queries::may_set;
-use crate::rules::{found, within};
+use crate::rules::{active, few_changes, found, within};
 use crate::stop::AdmitStop;
 use iam_judge::Index;
 use iam_model::changes_are_countable;
@@ -133,11 +133,27 @@ fn few_in_all(
     )
 }
 
-fn few_changes(tables: &Tables) -> Result<(), AdmitStop>
+// The rules behind the permission, in their groups. (No condition can be given yet.)
+fn policy_fits(
+    alloc: Global,
+    tables: &Tables,
+    catalogue: &Catalogue,
+    node: NodeId,
+    version: u64,
+    etag: Option<u64>,
+    bindings: &List<Binding>,
+) -> Result<(), AdmitStop>
     requires { tables.now.org.changes + 1 < 2 ^ 64 }
-    ensures { Follows result (many_changes tables.now) }
+    ensures { Follows result (first_of (map first_of (spec.early_rules tables.now node version etag bindings.now ∷ [] ∷ spec.middle_rules tables.now bindings.now ∷ [] ∷ spec.late_rules tables.now node bindings.now ∷ []))) }
 {
-    within(tables.org.changes + 1, LimitName::Changes)
+    let given = bindings.as_slice();
+    has_etag(tables, node, etag)?;
+    has_version(tables, node, version, etag, given)?;
+    has_roles(tables, catalogue, given)?;
+    few_members(given)?;
+    few_groups(alloc, given)?;
+    few_in_all(alloc, tables, node, bindings)?;
+    few_changes(tables)
 }
 
 // The node of the name, where no rule refuses the setting of its allow policy.
@@ -157,15 +173,13 @@ fn keeps_rules(
     let tables = index.tables();
     let given = bindings.as_slice();
     let node = found(alloc, tables, name)?;
+    active(alloc, tables, name, node)?;
     may_set(alloc, index, &entry.caller, entry.moment, node, given)?;
-    has_etag(tables, node, etag)?;
-    has_version(tables, node, version, etag, given)?;
-    has_roles(tables, index.catalogue(), given)?;
-    few_members(given)?;
-    few_groups(alloc, given)?;
-    few_in_all(alloc, tables, node, bindings)?;
-    few_changes(tables)?;
-    Ok(node)
+    let catalogue = index.catalogue();
+    match policy_fits(alloc, tables, catalogue, node, version, etag, bindings) {
+        Ok(()) => Ok(node),
+        Err(stop) => Err(stop),
+    }
 }
 
 /// The changes of the setting of an allow policy, where no rule refuses it.

@@ -1,10 +1,11 @@
 // The facts that an accepted command changes.
-ghost use Rattle.std.specs.Prelude.{◌≡◌, ◌+◌, ◌<◌, ◌^◌, IfOk};
+ghost use Rattle.std.specs.Prelude.{◌≡◌, ◌+◌, ◌<◌, ◌≤◌, ◌^◌, IfOk};
 ghost use Rattle.iam_model.specs.Allow as allow_spec;
+ghost use Rattle.iam_model.specs.Creation as creation_spec;
 ghost use Rattle.iam_model.specs.Shared as shared_spec;
 
 use iam_names::NodeId;
-use iam_tables::{Binding, Fact, FactChange, Org, Tables, copy_org, policy_after};
+use iam_tables::{Binding, Fact, FactChange, Node, Org, Tables, copy_org, policy_after};
 use iam_text::{List, OutOfMemory};
 use std::alloc::Global;
 
@@ -15,6 +16,34 @@ fn changed(org: &Org) -> Result<Org, OutOfMemory>
     let mut changed = copy_org(org)?;
     changed.changes += 1;
     Ok(changed)
+}
+
+fn numbered(org: &Org) -> Result<Org, OutOfMemory>
+    requires next { org.now.next ≤ org.now.changes }
+    requires changes { org.now.changes + 1 < 2 ^ 64 }
+    ensures { IfOk result (λ numbered. numbered ≡ creation_spec.numbered org.now) }
+{
+    let mut numbered = copy_org(org)?;
+    numbered.next += 1;
+    numbered.changes += 1;
+    Ok(numbered)
+}
+
+/// A creation puts the node, and the organisation with one more number and one more change.
+pub fn creation_changes(
+    alloc: Global,
+    tables: &Tables,
+    node: Node,
+) -> Result<List<FactChange>, OutOfMemory>
+    requires next { tables.now.org.next ≤ tables.now.org.changes }
+    requires changes { tables.now.org.changes + 1 < 2 ^ 64 }
+    ensures { IfOk result (λ changes. changes ≡ creation_spec.added_changes tables.now node) }
+{
+    let org = numbered(&tables.org)?;
+    let mut changes = List::new(alloc);
+    changes.push(FactChange::Put(Fact::Node(node)))?;
+    changes.push(FactChange::Put(Fact::Org(org)))?;
+    Ok(changes)
 }
 
 /// The setting of a policy puts the policy, and the organisation with one more change.

@@ -7,6 +7,7 @@
 mod accepted;
 mod allow;
 mod changes;
+mod creation;
 mod modified;
 mod queries;
 mod rules;

@@ -1,17 +1,17 @@
 // Rules that several commands have.
-ghost use Rattle.std.specs.Prelude.{◌≡◌, IfOk, IsTrue, Some};
+ghost use Rattle.std.specs.Prelude.{◌≡◌, ◌+◌, ◌<◌, ◌^◌, IfOk, IsTrue, Some};
 ghost use Rattle.iam_names.specs.Node.{node_text};
-ghost use Rattle.iam_types.specs.declared.refusal.Refusal.TheVariants.{NotFound};
+ghost use Rattle.iam_types.specs.declared.refusal.Refusal.TheVariants.{NotActive, NotFound};
 ghost use Rattle.iam_model.specs.Limits.{beyond};
 ghost use Rattle.iam_model.specs.Nodes as node_spec;
-ghost use Rattle.iam_model.specs.Shared.{missing};
+ghost use Rattle.iam_model.specs.Shared.{inactive, many_changes, missing};
 ghost use Rattle.iam_law.specs.Asked as asked_spec;
 ghost use Rattle.iam_admit.specs.Follows.{Follows};
 
 use crate::stop::AdmitStop;
 use iam_judge::unless_allowed;
 use iam_names::{NodeId, NodeName, PermissionName};
-use iam_tables::{Decision, LimitName, Refusal, Tables, limit_of, resolve};
+use iam_tables::{Decision, LimitName, Refusal, Tables, is_active, limit_of, resolve};
 use iam_text::OutOfMemory;
 use std::alloc::Global;
 
@@ -31,6 +31,29 @@ pub fn found(alloc: Global, tables: &Tables, name: &NodeName) -> Result<NodeId, 
     match resolve(tables, name) {
         Some(node) => Ok(node),
         None => Err(AdmitStop::Refused(not_found(alloc, name)?)),
+    }
+}
+
+fn not_active(alloc: Global, name: &NodeName) -> Result<Refusal, OutOfMemory>
+    ensures { IfOk result (λ refusal. refusal ≡ NotActive (node_text name.now)) }
+{
+    let name = name.text(alloc)?;
+    Ok(Refusal::NotActive { name })
+}
+
+/// The node of a name is ACTIVE.
+pub fn active(
+    alloc: Global,
+    tables: &Tables,
+    name: &NodeName,
+    node: NodeId,
+) -> Result<(), AdmitStop>
+    ensures { Follows result (inactive tables.now name.now node) }
+{
+    if is_active(tables, node) {
+        Ok(())
+    } else {
+        Err(AdmitStop::Refused(not_active(alloc, name)?))
     }
 }
 
@@ -57,4 +80,12 @@ pub fn within(counted: u64, which: LimitName) -> Result<(), AdmitStop>
         }));
     }
     Ok(())
+}
+
+/// One more change isn't one too many.
+pub fn few_changes(tables: &Tables) -> Result<(), AdmitStop>
+    requires { tables.now.org.changes + 1 < 2 ^ 64 }
+    ensures { Follows result (many_changes tables.now) }
+{
+    within(tables.org.changes + 1, LimitName::Changes)
 }

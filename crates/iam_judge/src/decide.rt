@@ -1,5 +1,5 @@
 // The decision.
-ghost use Rattle.std.specs.Prelude.{◌≡◌, ◌<◌, ◌^◌, ◌&&◌, All, IfOk, length};
+ghost use Rattle.std.specs.Prelude.{◌≡◌, ◌<◌, ◌^◌, ◌&&◌, All, IfOk, length, unwrap_or};
 ghost use Rattle.std.specs.List.{find, list_any};
 ghost use Rattle.std.specs.Option.{option_map};
 ghost use Rattle.std.specs.Ordering.{is_lt, nat_cmp};
@@ -8,13 +8,15 @@ ghost use Rattle.iam_model.specs.Holds as holds_spec;
 ghost use Rattle.iam_law.specs.Decide as decide_spec;
 ghost use Rattle.iam_law.specs.Decide.{in_turn};
 ghost use Rattle.iam_law.specs.Shown.{lets_grant, shown};
+ghost use Rattle.iam_judge.specs.Granting as spec;
+ghost use Rattle.iam_judge.specs.Granting.{first_grant};
 ghost use Rattle.iam_judge.specs.Leading.{role_before};
 
 use crate::holds::holds;
 use crate::roles::grants;
 use iam_law::{firsts_are_one, grants_are_first};
-use iam_names::{Caller, Member};
-use iam_tables::{Binding, Catalogue, Condition, Decision, Query, Tables, bindings_at};
+use iam_names::{Caller, Member, NodeId};
+use iam_tables::{Binding, Catalogue, Condition, Decision, Query, Tables, bindings_at, way_up};
 use iam_text::{OutOfMemory, Text};
 use std::alloc::Global;
 use std::cmp::Ordering;
@@ -114,8 +116,44 @@ fn place_in(
     Ok(place_of(best))
 }
 
-/// The decision, by a scan of the tables.
+// The grant of the node's own policy.
 #[tactic(auto, using(crate::proofs::Deciding::found_is_countable))]
+fn grant_at(
+    alloc: Global,
+    tables: &Tables,
+    catalogue: &Catalogue,
+    query: &Query,
+    node: NodeId,
+) -> Result<Option<Decision>, OutOfMemory>
+    requires { All (λ policy. length policy.bindings < 2 ^ 32) tables.now.allows }
+    ensures { IfOk result (λ grant. grant ≡ spec.grant_at tables.now query.now node) }
+{
+    match place_in(alloc, tables, catalogue, query, bindings_at(tables, node))? {
+        Some(place) => Ok(Some(Decision::Allowed { node, place })),
+        None => Ok(None),
+    }
+}
+
+// The first grant of these nodes.
+fn decide_on(
+    alloc: Global,
+    tables: &Tables,
+    catalogue: &Catalogue,
+    query: &Query,
+    nodes: &[NodeId],
+) -> Result<Decision, OutOfMemory>
+    requires { All (λ policy. length policy.bindings < 2 ^ 32) tables.now.allows }
+    ensures { IfOk result (λ decision. decision ≡ unwrap_or (first_grant tables.now query.now nodes.now) Decision.NotGranted) }
+{
+    for node in nodes {
+        if let Some(decision) = grant_at(alloc, tables, catalogue, query, *node)? {
+            return Ok(decision);
+        }
+    }
+    Ok(Decision::NotGranted)
+}
+
+/// The decision, by a scan of the tables for each node from the query's own up to the organisation.
 pub fn decide(
     alloc: Global,
     tables: &Tables,
@@ -125,9 +163,7 @@ pub fn decide(
     requires { All (λ policy. length policy.bindings < 2 ^ 32) tables.now.allows }
     ensures { IfOk result (λ decision. decision ≡ decide_spec.decide tables.now query.now) }
 {
-    let node = query.node;
-    match place_in(alloc, tables, catalogue, query, bindings_at(tables, node))? {
-        Some(place) => Ok(Decision::Allowed { node, place }),
-        None => Ok(Decision::NotGranted),
-    }
+    let way = way_up(alloc, tables, query.node)?;
+    let decision = decide_on(alloc, tables, catalogue, query, way.as_slice())?;
+    Ok(decision)
 }

@@ -1,4 +1,5 @@
 pub mod Back
+pub mod Climbing
 pub mod Fitting
 pub mod Grouping
 pub mod Named

@@ -1,24 +1,30 @@
 // The tables after an entry that fits: a match into one function a command.
-ghost use Rattle.std.specs.Prelude.{◌≡◌, ◌+◌, ◌<◌, ◌^◌, OnOk, OnErr, None};
+ghost use Rattle.std.specs.Prelude.{◌≡◌, ◌+◌, ◌<◌, ◌≤◌, ◌^◌, OnOk, OnErr, None};
 ghost use Rattle.iam_model.specs.Commands.{IsEntry, after, fits};
 ghost use Rattle.iam_model.specs.Consistent.{Consistent};
 
 use crate::change_allow::set_allow;
+use crate::change_nodes::{create_folder, create_project};
 use iam_model::{changes_are_countable, changes_keep_consistent};
 use iam_text::OutOfMemory;
 use iam_types::{Command, Entry, Tables};
 use std::alloc::Global;
 
 fn apply_command(tables: &mut Tables, alloc: Global, entry: &Entry) -> Result<(), OutOfMemory>
-    requires { tables.old.org.changes + 1 < 2 ^ 64 }
+    requires next { tables.old.org.next ≤ tables.old.org.changes }
+    requires changes { tables.old.org.changes + 1 < 2 ^ 64 }
     ensures ok { OnOk result (tables.new ≡ after tables.old entry.now) }
     ensures err { OnErr result (tables.new ≡ tables.old) }
 {
     match &entry.command {
         Command::SetAllow { node, bindings, .. } => set_allow(tables, alloc, node, bindings),
-        Command::CreateFolder { .. }
-        | Command::RenameFolder { .. }
-        | Command::CreateProject { .. }
+        Command::CreateFolder { parent, display } => create_folder(tables, alloc, parent, display),
+        Command::CreateProject {
+            project,
+            parent,
+            display,
+        } => create_project(tables, alloc, project, parent, display),
+        Command::RenameFolder { .. }
         | Command::Move { .. }
         | Command::DeleteNode { .. }
         | Command::UndeleteNode { .. }

@@ -5,7 +5,7 @@ ghost use Rattle.iam_model.specs.Allow as allow_spec;
 ghost use Rattle.iam_model.specs.Nodes as node_spec;
 ghost use Rattle.iam_model.specs.Policies as policy_spec;
 
-use crate::reading::resolve;
+use crate::nodes::resolve;
 use iam_names::{NodeId, NodeName};
 use iam_text::{List, OutOfMemory, put_row};
 use iam_types::{AllowPolicy, Binding, Tables, copy_binding};

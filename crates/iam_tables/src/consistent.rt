@@ -1,27 +1,26 @@
 // The rules that tables of facts may break, a function each.
-ghost use Rattle.std.specs.Prelude.{◌≡◌, ◌↔◌, ◌≤◌, IfOk, IfSome, IfNone, IsTrue};
+ghost use Rattle.std.specs.Prelude.{◌≡◌, ◌↔◌, ◌≤◌, IfOk, IfSome, IfNone, IsTrue, length};
 ghost use Rattle.std.specs.List.{All, list_all};
 ghost use Rattle.iam_model.specs.Broken.{IsFirstBrokenBy};
-ghost use Rattle.iam_types.specs.declared.refusal.LimitName.TheVariants.{PolicyGroups, PolicyMembers};
-ghost use Rattle.iam_model.specs.Consistent.{Keeps, NumbersFit, PoliciesStand, SetByChanges, WithinLimits};
+ghost use Rattle.iam_types.specs.declared.refusal.LimitName.TheVariants.{Changes, ChildFolders, Nodes, PolicyGroups, PolicyMembers};
+ghost use Rattle.iam_model.specs.Consistent.{Keeps, PoliciesStand, SetByChanges, WithinLimits};
+ghost use Rattle.iam_model.specs.Hierarchy as hierarchy_spec;
 ghost use Rattle.iam_model.specs.Limits as limit_spec;
 ghost use Rattle.iam_model.specs.Nodes as node_spec;
 ghost use Rattle.iam_model.specs.Policies as policy_spec;
 
 use crate::Catalogue;
+use crate::children::count_folders;
 use crate::count::{count_all_members, count_members};
 use crate::groups::count_groups;
+use crate::hierarchy::broken_hierarchy;
 use crate::limits::limit_of;
-use crate::reading::{exists, is_role};
+use crate::nodes::exists;
+use crate::numbers::numbers_fit;
+use crate::reading::is_role;
 use iam_text::OutOfMemory;
 use iam_types::{AllowPolicy, Binding, LimitName, Tables};
 use std::alloc::Global;
-
-fn numbers_fit(tables: &Tables) -> bool
-    ensures { IsTrue result ↔ NumbersFit tables.now }
-{
-    tables.org.next >= 1 && tables.org.next <= tables.org.changes
-}
 
 fn nodes_exist(tables: &Tables) -> bool
     ensures { result ≡ list_all (λ policy. node_spec.exists tables.now policy.node) tables.now.allows }
@@ -81,6 +80,29 @@ fn groups_within(alloc: Global, allows: &[AllowPolicy]) -> Result<bool, OutOfMem
     Ok(true)
 }
 
+fn folders_within(tables: &Tables) -> bool
+    ensures { IsTrue result ↔ All (λ node. hierarchy_spec.count_folders tables.now.nodes node.parent ≤ limit_spec.limit_of ChildFolders) tables.now.nodes }
+{
+    let limit = limit_of(LimitName::ChildFolders);
+    tables
+        .nodes
+        .as_slice()
+        .iter()
+        .all(|row| count_folders(tables, row.parent) as u64 <= limit)
+}
+
+fn nodes_within(tables: &Tables) -> bool
+    ensures { IsTrue result ↔ (length tables.now.nodes ≤ limit_spec.limit_of Nodes) }
+{
+    tables.nodes.len() as u64 <= limit_of(LimitName::Nodes)
+}
+
+fn changes_within(tables: &Tables) -> bool
+    ensures { IsTrue result ↔ (tables.now.org.changes ≤ limit_spec.limit_of Changes) }
+{
+    tables.org.changes <= limit_of(LimitName::Changes)
+}
+
 // The groups come behind the members, which bound their number.
 fn within_limits(alloc: Global, tables: &Tables) -> Result<bool, OutOfMemory>
     ensures { IfOk result (λ within. IsTrue within ↔ WithinLimits tables.now) }
@@ -92,11 +114,11 @@ fn within_limits(alloc: Global, tables: &Tables) -> Result<bool, OutOfMemory>
     if !groups_within(alloc, allows)? {
         return Ok(false);
     }
+    if !folders_within(tables) || !nodes_within(tables) || !changes_within(tables) {
+        return Ok(false);
+    }
     let members = count_all_members(allows)?;
-    Ok(
-        members <= limit_of(LimitName::Members)
-            && tables.org.changes <= limit_of(LimitName::Changes),
-    )
+    Ok(members <= limit_of(LimitName::Members))
 }
 
 fn set_by_changes(tables: &Tables) -> bool
@@ -111,6 +133,9 @@ pub fn broken_rule(alloc: Global, tables: &Tables) -> Result<Option<u8>, OutOfMe
     ensures broken { IfOk result (λ broken. IfSome broken (IsFirstBrokenBy tables.now)) }
     ensures kept { IfOk result (λ broken. IfNone broken (Keeps tables.now)) }
 {
+    if let Some(rule) = broken_hierarchy(tables) {
+        return Ok(Some(rule));
+    }
     if !numbers_fit(tables) {
         return Ok(Some(6));
     }

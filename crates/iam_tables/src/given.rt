@@ -9,7 +9,7 @@ ghost use Rattle.iam_model.specs.Facts as spec;
 ghost use Rattle.iam_model.specs.Facts.{AreApart, fact_order, facts_of};
 ghost use Rattle.iam_model.specs.Formed.{IsFact};
 ghost use Rattle.iam_model.specs.Part.{rows_in, table_of};
-ghost use Rattle.iam_model.specs.Parts.{allow_part, org_part};
+ghost use Rattle.iam_model.specs.Parts.{allow_part, node_part, org_part};
 ghost use Rattle.iam_types.specs.declared.tables.Tables.{Tables};
 ghost use Rattle.iam_tables.specs.Back.{GivesBack};
 
@@ -20,7 +20,7 @@ use iam_model::{
     given_tables_are_consistent, nothing_else_is_given, tables_have_placed_facts,
 };
 use iam_text::{List, OutOfMemory, put_row};
-use iam_types::{AllowPolicy, Fact, Org, Tables, copy_org, copy_policy};
+use iam_types::{AllowPolicy, Fact, Node, Org, Tables, copy_node, copy_org, copy_policy};
 use std::alloc::Global;
 
 fn org_of(fact: &Fact) -> Option<&Org>
@@ -70,6 +70,39 @@ fn only_org(facts: &[Fact]) -> Option<&Org>
     }
 }
 
+// Puts the node of one more fact that stands before the others, if it has one.
+fn put_node_of(rows: &mut List<Node>, fact: &Fact) -> Result<(), OutOfMemory>
+    ensures { (others : List Fact) → rows.old ≡ table_of node_part others → OnOk result (rows.new ≡ table_of node_part (fact.now ∷ others)) }
+{
+    match fact {
+        Fact::Node(node) => put_row(rows, copy_node(node)?),
+        Fact::Org(_)
+        | Fact::Key(_)
+        | Fact::Value(_)
+        | Fact::Tag(_)
+        | Fact::Group(_)
+        | Fact::Edge(_)
+        | Fact::Role(_)
+        | Fact::Allow(_)
+        | Fact::Deny(_)
+        | Fact::Boundary(_)
+        | Fact::Bound(_) => Ok(()),
+    }
+}
+
+// The nodes in their order. The last fact comes first, so that each node of facts in order is put in front.
+fn nodes_of(alloc: Global, facts: &[Fact]) -> Result<List<Node>, OutOfMemory>
+    ensures { IfOk result (λ rows. rows ≡ table_of node_part facts.now) }
+{
+    let mut rows = List::new(alloc);
+    let mut left = facts.len();
+    while left > 0 {
+        left -= 1;
+        put_node_of(&mut rows, &facts[left])?;
+    }
+    Ok(rows)
+}
+
 // Puts the policy of one more fact that stands before the others, if it has one.
 fn put_policy_of(rows: &mut List<AllowPolicy>, fact: &Fact) -> Result<(), OutOfMemory>
     ensures { (others : List Fact) → rows.old ≡ table_of allow_part others → OnOk result (rows.new ≡ table_of allow_part (fact.now ∷ others)) }
@@ -90,7 +123,7 @@ fn put_policy_of(rows: &mut List<AllowPolicy>, fact: &Fact) -> Result<(), OutOfM
     }
 }
 
-// The policies in their order. The last fact comes first, so that each policy of facts in order is put in front.
+// The policies in their order, as the nodes.
 fn policies_of(alloc: Global, facts: &[Fact]) -> Result<List<AllowPolicy>, OutOfMemory>
     ensures { IfOk result (λ rows. rows ≡ table_of allow_part facts.now) }
 {
@@ -103,13 +136,18 @@ fn policies_of(alloc: Global, facts: &[Fact]) -> Result<List<AllowPolicy>, OutOf
     Ok(rows)
 }
 
-fn tables_with(alloc: Global, org: &Org, allows: List<AllowPolicy>) -> Result<Tables, OutOfMemory>
-    ensures { (facts : List Fact) → All IsFact facts → allows ≡ table_of allow_part facts → IfOk result (λ tables. tables ≡ spec.tables_with org.now facts) }
+fn tables_with(
+    alloc: Global,
+    org: &Org,
+    nodes: List<Node>,
+    allows: List<AllowPolicy>,
+) -> Result<Tables, OutOfMemory>
+    ensures { (facts : List Fact) → All IsFact facts → nodes ≡ table_of node_part facts → allows ≡ table_of allow_part facts → IfOk result (λ tables. tables ≡ spec.tables_with org.now facts) }
 {
     nothing_else_is_given();
     Ok(Tables {
         org: copy_org(org)?,
-        nodes: List::new(alloc),
+        nodes,
         keys: List::new(alloc),
         values: List::new(alloc),
         tags: List::new(alloc),
@@ -124,12 +162,13 @@ fn tables_with(alloc: Global, org: &Org, allows: List<AllowPolicy>) -> Result<Ta
 }
 
 // Facts in one place are put over one another, so that fewer are left in their places.
-fn are_apart(facts: &[Fact], allows: &[AllowPolicy]) -> bool
-    requires { length (placed fact_order facts.now) ≡ length allows.now + 1 }
+fn are_apart(facts: &[Fact], nodes: &[Node], allows: &[AllowPolicy]) -> bool
+    requires { length (placed fact_order facts.now) ≡ length allows.now + (length nodes.now + 1) }
     ensures { IsTrue result ↔ AreApart facts.now }
 {
     apart_facts_are_counted();
-    allows.len() == facts.len() - 1
+    let others = facts.len() - 1;
+    nodes.len() <= others && allows.len() == others - nodes.len()
 }
 
 fn tables_of(alloc: Global, facts: &[Fact]) -> Result<Tables, TablesStop>
@@ -144,11 +183,12 @@ fn tables_of(alloc: Global, facts: &[Fact]) -> Result<Tables, TablesStop>
     let Some(org) = only_org(facts) else {
         return Err(TablesStop::Inconsistent { rule: 1 });
     };
+    let nodes = nodes_of(alloc, facts)?;
     let allows = policies_of(alloc, facts)?;
-    if !are_apart(facts, allows.as_slice()) {
+    if !are_apart(facts, nodes.as_slice(), allows.as_slice()) {
         return Err(TablesStop::Inconsistent { rule: 2 });
     }
-    let tables = tables_with(alloc, org, allows)?;
+    let tables = tables_with(alloc, org, nodes, allows)?;
     match broken_rule(alloc, &tables)? {
         Some(rule) => Err(TablesStop::Inconsistent { rule }),
         None => Ok(tables),

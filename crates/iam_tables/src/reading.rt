@@ -1,52 +1,15 @@
-// What the tables and the catalogue tell.
-ghost use Rattle.std.specs.Prelude.{◌≡◌, IfSome, IsTrue};
+// What the tables and the catalogue tell of policies and roles.
+ghost use Rattle.std.specs.Prelude.{◌≡◌};
 ghost use Rattle.std.specs.Option.{option_copied};
 ghost use Rattle.std.specs.List.{list_any};
 ghost use Rattle.iam_model.specs.Catalogue as catalogue_spec;
 ghost use Rattle.iam_model.specs.Policies as policy_spec;
 ghost use Rattle.iam_model.specs.Presets as preset_spec;
 ghost use Rattle.iam_model.specs.Same as same_spec;
-ghost use Rattle.iam_model.specs.Nodes as node_spec;
 
 use crate::Catalogue;
-use iam_names::{NodeId, NodeKind, NodeName, PermissionName, RoleName};
+use iam_names::{NodeId, PermissionName, RoleName};
 use iam_types::{AllowPolicy, Binding, Preset, Role, Tables};
-
-/// The organisation's node.
-pub fn organization_of(tables: &Tables) -> NodeId
-    ensures { result ≡ node_spec.organization_of tables.now }
-{
-    NodeId {
-        kind: NodeKind::Organization,
-        number: tables.org.number,
-    }
-}
-
-/// Whether a node is there.
-pub fn exists(tables: &Tables, node: NodeId) -> bool
-    ensures { result ≡ node_spec.exists tables.now node }
-{
-    node == organization_of(tables)
-}
-
-/// The node of a name, if it is there.
-pub fn resolve(tables: &Tables, name: &NodeName) -> Option<NodeId>
-    ensures node { result ≡ node_spec.resolve tables.now name.now }
-    ensures there { IfSome result (λ node. IsTrue (node_spec.exists tables.now node)) }
-{
-    match name {
-        NodeName::Organization(number) => {
-            if *number == tables.org.number {
-                Some(organization_of(tables))
-            } else {
-                None
-            }
-        }
-        NodeName::Folder(_) => None,
-        NodeName::ProjectNumber(_) => None,
-        NodeName::ProjectId(_) => None,
-    }
-}
 
 /// Whether a permission is in the catalogue.
 pub fn is_permission(catalogue: &Catalogue, permission: &PermissionName) -> bool

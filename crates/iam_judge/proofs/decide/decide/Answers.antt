@@ -1,23 +1,20 @@
-use Rattle.std.proofs.Common.{List, Option, ℕ, ap, sym, ◌∙◌}
-use Rattle.std.specs.List.{find}
-use Rattle.std.specs.Option.{option_map, option_map_or}
-use Rattle.iam_types.specs.declared.allow.Binding.{Binding}
-use Rattle.iam_types.specs.declared.query.Decision.TheVariants.{Allowed, NotGranted}
+use Rattle.std.proofs.Common.{List, ap, ◌∙◌}
+use Rattle.std.specs.Prelude.{unwrap_or}
+use Rattle.iam_names.specs.declared.node.NodeId.{NodeId}
+use Rattle.iam_types.specs.declared.query.Decision.{Decision}
+use Rattle.iam_types.specs.declared.query.Decision.TheVariants.{NotGranted}
 use Rattle.iam_types.specs.declared.query.Query.{Query}
 use Rattle.iam_types.specs.declared.tables.Tables.{Tables}
-use Rattle.iam_law.specs.Decide.{binding_grants, in_turn}
+use Rattle.iam_model.specs.Nodes.{way_up}
+use Rattle.iam_judge.specs.Granting.{first_grant}
 use Rattle.iam_judge.proofs.Deciding.{decided}
 use Rattle.iam_judge.proofs.decide.decide.Goals as goal
 
-abbrev first_place : Tables → Query → List Binding → Option ℕ
-first_place tables query bindings = option_map (λ (turn : ℕ × Binding). turn.0) (find (λ turn. binding_grants tables query turn.1) (in_turn bindings))
+abbrev granted : Tables → Query → List NodeId → Decision
+granted tables query nodes = unwrap_or (first_grant tables query nodes) NotGranted
 
-pub returns-in-Some : goal.returns-in-Some
-returns-in-Some c =
-    let place = sym c.in-Some.is ∙ c.in_ok-place.ensures ∙ ap (first_place c.args.tables.now c.args.query.now) c.bindings_at.ensures in
-    ap (λ (place : Option ℕ). option_map_or (λ (p : ℕ). Allowed c.args.query.now.node p) place NotGranted) place ∙ decided c.args.tables.now c.args.query.now
-
-pub returns-in-None : goal.returns-in-None
-returns-in-None c =
-    let place = sym c.in-None.is ∙ c.in_ok-place.ensures ∙ ap (first_place c.args.tables.now c.args.query.now) c.bindings_at.ensures in
-    ap (λ (place : Option ℕ). option_map_or (λ (p : ℕ). Allowed c.args.query.now.node p) place NotGranted) place ∙ decided c.args.tables.now c.args.query.now
+pub returns : goal.returns
+returns c =
+    let tables = c.args.tables.now in
+    let query = c.args.query.now in
+    c.in_ok-decision.ensures ∙ ap (granted tables query) (c.as_slice.ensures ∙ c.in_ok-way.ensures) ∙ decided tables query (way_up tables.nodes query.node)

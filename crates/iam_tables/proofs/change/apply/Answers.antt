@@ -3,7 +3,10 @@ use Rattle.iam_model.specs.Consistent.{Consistent}
 use Rattle.iam_tables.proofs.change.apply.Goals as goal
 
 pub apply_command-requires : goal.apply_command-requires
-apply_command-requires c = c.changes_are_countable.ensures c.args.tables.now c.requires.consistent
+apply_command-requires c = record {
+  next = c.requires.consistent.keeps.numbers.last;
+  changes = c.changes_are_countable.ensures c.args.tables.now c.requires.consistent;
+}
 
 pub returns-clause-kept : goal.returns-clause-kept
 returns-clause-kept c =

@@ -1,6 +1,0 @@
-use Rattle.std.proofs.Common.{◌≡◌, map, take}
-use Rattle.iam_types.specs.declared.fact.Fact.TheVariants as fact
-use Rattle.iam_tables.proofs.facts.facts_of.Given as goal
-
-abbrev pub invariant-loop-policy : goal.invariant-loop-policy
-invariant-loop-policy l = l.facts ≡ map (λ policy. fact.Allow policy) (take l.policy-index l.tables.allows)
