@@ -1,13 +1,17 @@
 -- What is read of the bodies of kept facts, and what of that is well formed.
-use Rattle.std.proofs.Common.{◌≡◌, ℕ, List, [], Option, Some, None, Result, Ok, Err, codes, refl, sym, ap, ◌∙◌, subst, unwrap_or}
-use Rattle.serde_json.specs.Data.{Data, number, unsigned, string}
+use Rattle.std.proofs.Common.{◌≡◌, ℕ, Bool, List, [], Option, Some, None, Result, Ok, Err, codes, refl, sym, ap, ◌∙◌, subst, unwrap_or}
+use Rattle.std.specs.Prelude.{option_map}
+use Rattle.serde_json.specs.Data.{Data, boolean, number, unsigned, string}
 use Rattle.iam_names.specs.Member.{IsMember, member_text}
+use Rattle.iam_names.specs.Node.{IsNodeId, node_id_text}
 use Rattle.iam_names.specs.Role.{IsRoleName, role_text}
+use Rattle.iam_names.specs.declared.node.NodeId.{NodeId}
 use Rattle.iam_names.specs.declared.member.Member.{Member}
 use Rattle.iam_names.specs.declared.role.RoleName.{RoleName}
 use Rattle.iam_types.specs.declared.allow.Binding.{Binding}
 use Rattle.iam_types.specs.declared.allow.AllowPolicy.{AllowPolicy}
 use Rattle.iam_types.specs.declared.allow.Condition.{Condition}
+use Rattle.iam_types.specs.declared.node.Node.{Node}
 use Rattle.iam_types.specs.declared.node.Org.{Org}
 use Rattle.iam_json_data.specs.Printed.{list_data}
 use Rattle.iam_json_data.specs.Shown.{member_data, binding_data}
@@ -15,14 +19,17 @@ use Rattle.iam_json_data.specs.Reading.{Then, ReadsText, ReadsNumber, ReadsList,
 use Rattle.iam_json_data.specs.Readers.{ReadsAbsent, ReadsBinding}
 use Rattle.std.specs.List.{AllByRecursion as Each}
 use Rattle.iam_rows.proofs.Formed.{IsKept}
-use Rattle.iam_rows.specs.Rows.{org_data, policy_data}
-use Rattle.iam_rows.specs.Bodies.{ReadsAnyText, ReadsCounts, ReadsOwner, ReadsOrgBody, ReadsPolicyBody}
+use Rattle.iam_rows.specs.Rows.{node_data, node_members, org_data, policy_data}
+use Rattle.iam_rows.specs.Bodies.{ReadsAnyText, ReadsCounts, ReadsFlag, ReadsNamedNode, ReadsNodeBody, ReadsOwner, ReadsOrgBody, ReadsPolicyBody}
 use Rattle.iam_rows.specs.declared.body.AnyText.{AnyText}
 use Rattle.iam_rows.specs.declared.body.Counts.{Counts}
+use Rattle.iam_rows.specs.declared.body.Flag.{Flag}
+use Rattle.iam_rows.specs.declared.body.NamedNode.{NamedNode}
+use Rattle.iam_rows.specs.declared.body.NodeBody.{NodeBody}
 use Rattle.iam_rows.specs.declared.body.Owner.{Owner}
 use Rattle.iam_rows.specs.declared.body.OrgBody.{OrgBody}
 use Rattle.iam_rows.specs.declared.body.PolicyBody.{PolicyBody}
-use Rattle.iam_names.proofs.Told.{member_told, role_told}
+use Rattle.iam_names.proofs.Told.{member_told, node_id_told, role_told}
 use Rattle.iam_rows.proofs.Telling.{text_told, number_told, items_told, required_told, member_there_told, then_told}
 
 -- ---- the organisation
@@ -82,6 +89,71 @@ org_told org said h =
     (then_told (ReadsOwner (org_data org)) (λ (owner : Owner) (said : Result OrgBody (List ℕ)). said ≡ Ok (record { counts = counts_of org; owner = owner })) (owner_of org) (body_of org)
     (owner_told org) (λ s e. e))
     said h
+
+-- ---- nodes
+
+abbrev flag : Bool → Flag
+flag is_set = record { is_set = is_set }
+
+abbrev named : NodeId → NamedNode
+named node = record { node = node }
+
+flag_told : (is_set : Bool) (said : Result Flag (List ℕ)) → ReadsFlag (boolean is_set) said → said ≡ Ok (flag is_set)
+flag_told is_set (Ok v) h = let same : v.is_set ≡ is_set = cc h in ap (λ (b : Bool). Ok (flag b)) same
+flag_told is_set (Err path) h = absurd (cc (h.1))
+
+named_told : (node : NodeId) → IsNodeId node → (said : Result NamedNode (List ℕ)) → ReadsNamedNode (string (node_id_text node)) said → said ≡ Ok (named node)
+named_told node formed said h =
+    text_told (λ (one : NamedNode). IsNodeId one.node) (λ (one : NamedNode). node_id_text one.node)
+    (λ a b f g same. ap named (node_id_told a.node b.node f g same)) (named node) formed said h
+
+abbrev node_body : Bool → List ℕ → NodeId → Option (List ℕ) → NodeBody
+node_body active display parent project = record { active = active; display = display; parent = parent; project = project }
+
+abbrev after_parent : Data → Bool → List ℕ → NodeId → Result NodeBody (List ℕ) → Type 0
+after_parent d active display parent =
+    Then (ReadsMember ReadsAnyText (codes "project") (present (codes "project") d)) (λ project said.
+    said ≡ Ok (node_body active display parent (option_map (λ (any : AnyText). any.text) project)))
+
+abbrev after_display : Data → Bool → List ℕ → Result NodeBody (List ℕ) → Type 0
+after_display d active display =
+    Then (ReadsRequired ReadsNamedNode (codes "parent") (present (codes "parent") d)) (λ parent. after_parent d active display parent.node)
+
+abbrev after_active : Data → Bool → Result NodeBody (List ℕ) → Type 0
+after_active d active =
+    Then (ReadsRequired ReadsAnyText (codes "display") (present (codes "display") d)) (λ display. after_display d active display.text)
+
+-- the project's id, where it is shown
+project_told : (active : Bool) (display : List ℕ) (parent : NodeId) (project : Option (List ℕ)) (said : Result NodeBody (List ℕ))
+    → after_parent (node_members active display parent project) active display parent said → said ≡ Ok (node_body active display parent project)
+project_told active display parent None said h =
+    then_told (ReadsMember ReadsAnyText (codes "project") None)
+    (λ (project : Option AnyText) (said : Result NodeBody (List ℕ)). said ≡ Ok (node_body active display parent (option_map (λ (any : AnyText). any.text) project)))
+    None (node_body active display parent None) (λ s e. e) (λ s e. e) said h
+project_told active display parent (Some id) said h =
+    then_told (ReadsMember ReadsAnyText (codes "project") (Some (string id)))
+    (λ (project : Option AnyText) (said : Result NodeBody (List ℕ)). said ≡ Ok (node_body active display parent (option_map (λ (any : AnyText). any.text) project)))
+    (Some (any id)) (node_body active display parent (Some id))
+    (member_there_told ReadsAnyText (codes "project") (string id) (any id) (any_text_told id)) (λ s e. e) said h
+
+members_of_node_told : (active : Bool) (display : List ℕ) (parent : NodeId) (project : Option (List ℕ)) → IsNodeId parent → (said : Result NodeBody (List ℕ))
+    → ReadsNodeBody (node_members active display parent project) said → said ≡ Ok (node_body active display parent project)
+members_of_node_told active display parent project formed said h =
+    let d = node_members active display parent project in
+    then_told (ReadsRequired ReadsFlag (codes "active") (Some (boolean active))) (λ (read : Flag). after_active d read.is_set) (flag active) (node_body active display parent project)
+    (required_told ReadsFlag (codes "active") (boolean active) (flag active) (flag_told active))
+    (then_told (ReadsRequired ReadsAnyText (codes "display") (Some (string display))) (λ (read : AnyText). after_display d active read.text) (any display) (node_body active display parent project)
+    (required_told ReadsAnyText (codes "display") (string display) (any display) (any_text_told display))
+    (then_told (ReadsRequired ReadsNamedNode (codes "parent") (Some (string (node_id_text parent)))) (λ (read : NamedNode). after_parent d active display read.node) (named parent) (node_body active display parent project)
+    (required_told ReadsNamedNode (codes "parent") (string (node_id_text parent)) (named parent) (named_told parent formed))
+    (project_told active display parent project)))
+    said h
+
+abbrev pub body_of_node : Node → NodeBody
+body_of_node node = node_body node.active node.display node.parent node.project
+
+pub node_body_told : (node : Node) → IsNodeId node.parent → (said : Result NodeBody (List ℕ)) → ReadsNodeBody (node_data node) said → said ≡ Ok (body_of_node node)
+node_body_told node formed said h = members_of_node_told node.active node.display node.parent node.project formed said h
 
 -- ---- bindings
 

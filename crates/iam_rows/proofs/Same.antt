@@ -1,5 +1,5 @@
 -- Well formed facts of one row are the same.
-use Rattle.std.proofs.Common.{◌≡◌, ℕ, List, [], ◌∷◌, map, refl, sym, ap, ◌∙◌}
+use Rattle.std.proofs.Common.{◌≡◌, ℕ, Bool, List, [], ◌∷◌, map, refl, sym, ap, ◌∙◌}
 use Rattle.std.specs.Prelude.{All, Some, None, IsSomeAnd}
 use Rattle.std.specs.declared.option.Option.{Option}
 use Rattle.std.specs.List.{AllByRecursion as Each}
@@ -9,14 +9,15 @@ use Rattle.serde_json.specs.View.{items_of}
 use Rattle.iam_names.specs.Member.{IsMember, member_text}
 use Rattle.iam_names.specs.Role.{role_text}
 use Rattle.iam_names.specs.declared.member.Member.{Member}
-use Rattle.iam_names.specs.declared.node.NodeKind.{NodeKind}
-use Rattle.iam_names.specs.declared.node.NodeKind.TheVariants.{Organization}
+use Rattle.iam_names.specs.Node.{IsNodeId, node_id_text}
+use Rattle.iam_names.specs.declared.node.NodeId.{NodeId}
 use Rattle.iam_names.specs.declared.role.RoleName.{RoleName}
-use Rattle.iam_names.proofs.Told.{member_told, role_told}
+use Rattle.iam_names.proofs.Told.{member_told, node_id_told, role_told}
 use Rattle.iam_types.specs.declared.allow.AllowPolicy.{AllowPolicy}
 use Rattle.iam_types.specs.declared.allow.Binding.{Binding}
 use Rattle.iam_types.specs.declared.fact.Fact.{Fact}
 use Rattle.iam_types.specs.declared.fact.Fact.TheVariants as fact
+use Rattle.iam_types.specs.declared.node.Node.{Node}
 use Rattle.iam_types.specs.declared.node.Org.{Org}
 use Rattle.iam_json_data.specs.Printed.{printed}
 use Rattle.iam_json_data.specs.Shown.{member_data, binding_data}
@@ -24,11 +25,11 @@ use Rattle.iam_model.specs.Formed.{IsFact}
 use Rattle.iam_outer.specs.declared.keeper.Row.{Row}
 use Rattle.iam_rows.specs.Finding.{IsFactOf}
 use Rattle.iam_rows.specs.Kept.{AreRows, AreFactsOf}
-use Rattle.iam_rows.specs.Rows.{HasRow, data_of, org_data, policy_data}
-use Rattle.iam_rows.proofs.Back.{org_read, policy_read}
+use Rattle.iam_rows.specs.Rows.{HasRow, data_of, node_data, node_members, org_data, policy_data}
+use Rattle.iam_rows.proofs.Back.{node_read, org_read, policy_read}
 use Rattle.iam_rows.proofs.Formed.{IsKept, all_kept}
 use Rattle.iam_rows.proofs.Kept.{plain_binding, without_condition}
-use Rattle.iam_rows.proofs.Like.{IsOrgRow, IsPolicyRow, one_number, policy_name, org_meant, policy_meant}
+use Rattle.iam_rows.proofs.Like.{IsNodeRow, IsOrgRow, IsPolicyRow, one_number, node_meant, org_meant, policy_meant}
 
 -- ---- the organisation
 
@@ -83,14 +84,11 @@ same_binding a b f g e =
     let members = same_list member_data IsMember same_member a.members b.members f.1 g.1 items in
     plain_a ∙ same_plain a.role b.role a.members b.members role members ∙ sym plain_b
 
-abbrev policy_of : ℕ → List Binding → ℕ → AllowPolicy
-policy_of n bindings set = record { node = record { kind = Organization; number = n }; bindings = bindings; set = set }
+abbrev policy_of : NodeId → List Binding → ℕ → AllowPolicy
+policy_of node bindings set = record { node = node; bindings = bindings; set = set }
 
-same_parts : (n m : ℕ) (bindings others : List Binding) (set last : ℕ) → n ≡ m → bindings ≡ others → set ≡ last → policy_of n bindings set ≡ policy_of m others last
-same_parts n m bindings others set last a b c = rw (a, b, c) refl
-
-of_organization : (policy : AllowPolicy) → policy.node.kind ≡ Organization → policy ≡ policy_of policy.node.number policy.bindings policy.set
-of_organization policy e = ap (λ (k : NodeKind). record policy { node = record { kind = k; number = policy.node.number } }) e
+same_parts : (node last : NodeId) (bindings others : List Binding) (set after : ℕ) → node ≡ last → bindings ≡ others → set ≡ after → policy_of node bindings set ≡ policy_of last others after
+same_parts node last bindings others set after a b c = rw (a, b, c) refl
 
 same_policy : (row : Row) (a b : AllowPolicy) → IsPolicyRow row a → IsPolicyRow row b → a ≡ b
 same_policy row a b h g =
@@ -100,14 +98,43 @@ same_policy row a b h g =
     let set : a.set ≡ b.set = cc shown in
     let items : items_of (map binding_data a.bindings) ≡ items_of (map binding_data b.bindings) = cc shown in
     let bindings = same_list binding_data IsKept same_binding a.bindings b.bindings (all_kept a.bindings h.0.bindings) (all_kept b.bindings g.0.bindings) items in
-    let number = one_number a.node.number b.node.number h.0.number g.0.number (sym (policy_name a h.0.kind) ∙ sym h.1.1 ∙ g.1.1 ∙ policy_name b g.0.kind) in
-    of_organization a h.0.kind ∙ same_parts a.node.number b.node.number a.bindings b.bindings a.set b.set number bindings set ∙ sym (of_organization b g.0.kind)
+    let node = node_id_told a.node b.node h.0.node g.0.node (sym h.1.1 ∙ g.1.1) in
+    same_parts a.node b.node a.bindings b.bindings a.set b.set node bindings set
+
+-- ---- folders and projects
+
+same_members : (active other : Bool) (display last : List ℕ) (parent above : NodeId) (project id : Option (List ℕ)) → IsNodeId parent → IsNodeId above
+    → node_members active display parent project ≡ node_members other last above id → (active ≡ other) × (display ≡ last) × (parent ≡ above) × (project ≡ id)
+same_members active other display last parent above None None f g e =
+    let names : node_id_text parent ≡ node_id_text above = cc e in (cc e, cc e, node_id_told parent above f g names, refl)
+same_members active other display last parent above None (Some id) f g e = absurd (cc e)
+same_members active other display last parent above (Some project) None f g e = absurd (cc e)
+same_members active other display last parent above (Some project) (Some id) f g e =
+    let names : node_id_text parent ≡ node_id_text above = cc e in
+    let ids : project ≡ id = cc e in
+    (cc e, cc e, node_id_told parent above f g names, ap (λ (i : List ℕ). Some i) ids)
+
+abbrev node_of : NodeId → NodeId → List ℕ → Option (List ℕ) → Bool → Node
+node_of id parent display project active = record { id = id; parent = parent; display = display; project = project; active = active }
+
+same_node_parts : (id other parent above : NodeId) (display last : List ℕ) (project given : Option (List ℕ)) (active state : Bool) → id ≡ other → parent ≡ above → display ≡ last → project ≡ given → active ≡ state
+    → node_of id parent display project active ≡ node_of other above last given state
+same_node_parts id other parent above display last project given active state a b c d e = rw (a, b, c, d, e) refl
+
+same_node : (row : Row) (a b : Node) → IsNodeRow row a → IsNodeRow row b → a ≡ b
+same_node row a b h g =
+    let x = node_read row.body a h.1.2 in
+    let y = node_read row.body b g.1.2 in
+    let shown : node_data a ≡ node_data b = cc (x, y) in
+    let parts = same_members a.active b.active a.display b.display a.parent b.parent a.project b.project h.0.parent g.0.parent shown in
+    let id = node_id_told a.id b.id h.0.id g.0.id (sym h.1.1 ∙ g.1.1) in
+    same_node_parts a.id b.id a.parent b.parent a.display b.display a.project b.project a.active b.active id parts.2 parts.1 parts.3 parts.0
 
 -- ---- facts
 
 pub same_fact : (row : Row) (a b : Fact) → IsFactOf row a → IsFactOf row b → a ≡ b
 same_fact row (fact.Org x) b h g = org_meant row x h.1.0 (λ kept is. same_org row x kept h is) b g
-same_fact row (fact.Node x) b h g = absurd h.0
+same_fact row (fact.Node x) b h g = node_meant row x h.1.0 (λ kept is. same_node row x kept h is) b g
 same_fact row (fact.Key x) b h g = absurd h.0
 same_fact row (fact.Value x) b h g = absurd h.0
 same_fact row (fact.Tag x) b h g = absurd h.0

@@ -2,15 +2,17 @@
 use Rattle.std.specs.Prelude.{◌≡◌, ◌⊎◌, ℕ, List, Option, Some, None, Result, Ok, Err}
 use Rattle.serde_json.specs.Data.{Data}
 use Rattle.serde_json.specs.Read.{read}
-use Rattle.iam_names.specs.declared.node.NodeName.{NodeName}
-use Rattle.iam_names.specs.declared.node.NodeName.TheVariants.{Organization, Folder, ProjectNumber, ProjectId}
-use Rattle.iam_names.specs.declared.node.NodeKind.TheVariants.{Organization as AnOrganization}
+use Rattle.iam_names.specs.declared.node.NodeKind.{NodeKind}
+use Rattle.iam_names.specs.declared.node.NodeKind.TheVariants.{Organization, Folder, Project}
+use Rattle.iam_names.specs.declared.node.NodeId.{NodeId}
 use Rattle.iam_types.specs.declared.allow.AllowPolicy.{AllowPolicy}
+use Rattle.iam_types.specs.declared.node.Node.{Node}
 use Rattle.iam_types.specs.declared.node.Org.{Org}
 use Rattle.iam_types.specs.declared.fact.Fact.{Fact}
 use Rattle.iam_outer.specs.declared.keeper.Row.{Row}
 use Rattle.iam_rows.specs.declared.stop.RowStop.{RowStop}
 use Rattle.iam_rows.specs.declared.stop.RowStop.TheVariants.{BadRow, OutOfMemory}
+use Rattle.iam_rows.specs.declared.body.NodeBody.{NodeBody}
 use Rattle.iam_rows.specs.declared.body.OrgBody.{OrgBody}
 use Rattle.iam_rows.specs.declared.body.PolicyBody.{PolicyBody}
 use Rattle.iam_model.specs.Formed.{IsFact}
@@ -37,17 +39,19 @@ ReadsRow reads text (Err BadRow) = (read text ≡ None) ⊎ ((d : Data) × (path
 ReadsRow reads text (Err OutOfMemory) = Unit {0}
 
 -- the number of an organisation
-abbrev pub organization_of : Option NodeName → Option ℕ
-organization_of None = None
-organization_of (Some (Organization number)) = Some number
-organization_of (Some (Folder number)) = None
-organization_of (Some (ProjectNumber number)) = None
-organization_of (Some (ProjectId id)) = None
+abbrev pub number_in : NodeKind → ℕ → Option ℕ
+number_in Organization number = Some number
+number_in Folder number = None
+number_in Project number = None
 
 -- the organisation of this number and body
 abbrev pub org_with : ℕ → OrgBody → Org
 org_with n body = record { number = n; domain = body.owner.domain; customer = body.owner.customer; next = body.counts.next; changes = body.counts.changes }
 
--- the policy of the organisation of this number, by its body
-abbrev pub policy_with : ℕ → PolicyBody → AllowPolicy
-policy_with n body = record { node = record { kind = AnOrganization; number = n }; bindings = body.bindings; set = body.set }
+-- the node of this number and body
+abbrev pub node_with : NodeId → NodeBody → Node
+node_with id body = record { id = id; parent = body.parent; display = body.display; project = body.project; active = body.active }
+
+-- the policy of this node, by its body
+abbrev pub policy_with : NodeId → PolicyBody → AllowPolicy
+policy_with node body = record { node = node; bindings = body.bindings; set = body.set }

@@ -1,9 +1,11 @@
 // The bodies of rows.
+ghost use Rattle.std.specs.Prelude.{◌≡◌, [], MatchOption, Ok, Err, option_map};
 ghost use Rattle.serde_json.specs.View.{view};
 ghost use Rattle.iam_json_data.specs.Reading.{Gives};
-ghost use Rattle.iam_rows.specs.Bodies.{ReadsCounts, ReadsOwner};
+ghost use Rattle.iam_rows.specs.Bodies.{ReadsCounts, ReadsNode, ReadsOwner};
 
-use iam_json_data::{BodyStop, FromJson, bad_here, read_required};
+use iam_json_data::{BodyStop, FromJson, bad_here, read_member, read_required};
+use iam_names::NodeId;
 use iam_text::{List, Text};
 use iam_types::Binding;
 use serde_json::Value;
@@ -13,6 +15,18 @@ use std::alloc::Global;
 #[derive(Drop)]
 pub struct AnyText {
     pub text: Text,
+}
+
+/// True or false.
+#[derive(Drop)]
+pub struct Flag {
+    pub is_set: bool,
+}
+
+/// A node by its name, with its number.
+#[derive(Drop)]
+pub struct NamedNode {
+    pub node: NodeId,
 }
 
 /// The numbers of the organisation's row.
@@ -36,6 +50,15 @@ pub struct OrgBody {
     pub owner: Owner,
 }
 
+/// What the body of a node's row has.
+#[derive(Drop)]
+pub struct NodeBody {
+    pub active: bool,
+    pub display: Text,
+    pub parent: NodeId,
+    pub project: Option<Text>,
+}
+
 /// What the body of an allow policy's row has.
 #[derive(Drop)]
 pub struct PolicyBody {
@@ -53,6 +76,41 @@ impl FromJson for AnyText {
             Some(text) => Ok(AnyText {
                 text: Text::of(alloc, text)?,
             }),
+            None => Err(bad_here(alloc)),
+        }
+    }
+}
+
+impl FromJson for Flag {
+    ghost use Rattle.iam_rows.specs.Bodies.{ReadsFlag};
+
+    ghost reads = { ReadsFlag };
+
+    fn from_json(alloc: Global, value: &Value) -> Result<Flag, BodyStop> {
+        match value.as_bool() {
+            Some(is_set) => Ok(Flag { is_set }),
+            None => Err(bad_here(alloc)),
+        }
+    }
+}
+
+fn named_node(alloc: Global, read: Option<NodeId>) -> Result<NamedNode, BodyStop>
+    ensures { MatchOption read (result ≡ Err (BodyStop.BadField [])) (λ node. result ≡ Ok (record { node = node })) }
+{
+    match read {
+        Some(node) => Ok(NamedNode { node }),
+        None => Err(bad_here(alloc)),
+    }
+}
+
+impl FromJson for NamedNode {
+    ghost use Rattle.iam_rows.specs.Bodies.{ReadsNamedNode};
+
+    ghost reads = { ReadsNamedNode };
+
+    fn from_json(alloc: Global, value: &Value) -> Result<NamedNode, BodyStop> {
+        match value.as_str() {
+            Some(text) => named_node(alloc, NodeId::read(text)),
             None => Err(bad_here(alloc)),
         }
     }
@@ -89,6 +147,43 @@ impl FromJson for OrgBody {
         let counts = read_counts(alloc, value)?;
         let owner = read_owner(alloc, value)?;
         Ok(OrgBody { counts, owner })
+    }
+}
+
+fn text_of(any: Option<AnyText>) -> Option<Text>
+    ensures { result ≡ option_map (λ any. any.text) any }
+{
+    match any {
+        Some(any) => Some(any.text),
+        None => None,
+    }
+}
+
+fn read_node(alloc: Global, value: &Value) -> Result<NodeBody, BodyStop>
+    ensures { Gives (ReadsNode (view value.now)) result }
+{
+    let active: Flag = read_required(alloc, "active", value)?;
+    let display: AnyText = read_required(alloc, "display", value)?;
+    let parent: NamedNode = read_required(alloc, "parent", value)?;
+    let project = text_of(read_member(alloc, "project", value)?);
+    Ok(NodeBody {
+        active: active.is_set,
+        display: display.text,
+        parent: parent.node,
+        project,
+    })
+}
+
+impl FromJson for NodeBody {
+    ghost use Rattle.iam_rows.specs.Bodies.{ReadsNodeBody};
+
+    ghost reads = { ReadsNodeBody };
+
+    fn from_json(alloc: Global, value: &Value) -> Result<NodeBody, BodyStop> {
+        if !value.is_object() {
+            return Err(bad_here(alloc));
+        }
+        read_node(alloc, value)
     }
 }
 

@@ -2,9 +2,9 @@
 //!
 //! `row_of` gives the row of a well formed fact. `fact_of` gives the one well formed fact that has a row, byte for
 //! byte, and refuses a row exactly where there is none. So what was kept is read back, and nothing else is read.
-//! The kinds of facts that are kept so far are the organisation and its allow policy. `facts_of_rows` reads many rows, or
-//! names the first bad one; `writes_of` and `puts_of` are the writes that keep changes of facts, after which the rows are
-//! those of the facts with the changes.
+//! The kinds of facts that are kept so far are the organisation, its folders and projects, and their allow policies.
+//! `facts_of_rows` reads many rows, or names the first bad one; `writes_of` and `puts_of` are the writes that keep changes
+//! of facts, after which the rows are those of the facts with the changes.
 #![tactic(auto)]
 
 mod body;

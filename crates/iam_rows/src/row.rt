@@ -3,13 +3,13 @@ ghost use Rattle.std.specs.Prelude.{◌≡◌, IfOk, false};
 ghost use Rattle.serde_json.specs.View.{view};
 ghost use Rattle.serde_json.specs.Written.{has_float};
 ghost use Rattle.iam_model.specs.Formed.{IsFact};
-ghost use Rattle.iam_rows.specs.Rows.{schema, org_name, org_data, policy_data, IsRow, HasRow};
+ghost use Rattle.iam_rows.specs.Rows.{schema, node_data, org_name, org_data, policy_data, IsRow, HasRow};
 
 use iam_json_data::{list_value, text_of};
 use iam_names::{NodeId, NodeKind};
 use iam_outer::Row;
 use iam_text::{OutOfMemory, Text};
-use iam_types::{AllowPolicy, Fact, Org};
+use iam_types::{AllowPolicy, Fact, Node, Org};
 use serde_json::{Value, json};
 use std::alloc::Global;
 
@@ -26,6 +26,26 @@ fn org_value(alloc: Global, org: &Org) -> Result<Value, OutOfMemory>
         "next": org.next,
         "schema": SCHEMA
     })?)
+}
+
+// The members of a node, where it is a folder or a project.
+fn node_value(alloc: Global, node: &Node) -> Result<Value, OutOfMemory>
+    ensures { IfOk result (λ v. view v ≡ node_data node.now) }
+{
+    let parent = node.parent.text(alloc)?;
+    match &node.project {
+        None => Ok(json!(in alloc; {
+            "active": node.active,
+            "display": node.display.as_str(),
+            "parent": parent.as_str()
+        })?),
+        Some(project) => Ok(json!(in alloc; {
+            "active": node.active,
+            "display": node.display.as_str(),
+            "parent": parent.as_str(),
+            "project": project.as_str()
+        })?),
+    }
 }
 
 fn policy_value(alloc: Global, policy: &AllowPolicy) -> Result<Value, OutOfMemory>
@@ -70,6 +90,13 @@ fn policy_row(alloc: Global, policy: &AllowPolicy) -> Result<Row, OutOfMemory>
     row_with(alloc, "allow", policy.node.text(alloc)?, &value)
 }
 
+fn node_row(alloc: Global, node: &Node) -> Result<Row, OutOfMemory>
+    ensures { IfOk result (HasRow (Fact.Node node.now)) }
+{
+    let value = node_value(alloc, node)?;
+    row_with(alloc, "node", node.id.text(alloc)?, &value)
+}
+
 /// The row that keeps a fact.
 pub fn row_of(alloc: Global, fact: &Fact) -> Result<Row, OutOfMemory>
     requires { IsFact fact.now }
@@ -78,8 +105,8 @@ pub fn row_of(alloc: Global, fact: &Fact) -> Result<Row, OutOfMemory>
     match fact {
         Fact::Org(org) => org_row(alloc, org),
         Fact::Allow(policy) => policy_row(alloc, policy),
-        Fact::Node(_)
-        | Fact::Key(_)
+        Fact::Node(node) => node_row(alloc, node),
+        Fact::Key(_)
         | Fact::Value(_)
         | Fact::Tag(_)
         | Fact::Group(_)
