@@ -6,12 +6,15 @@ use Rattle.iam_types.specs.declared.refusal.Refusal.{Refusal}
 use Rattle.iam_types.specs.declared.refusal.Refusal.TheVariants.{FutureRevision, NotFound, DeniedBoundary, DeniedRule, NotGranted, NotActive, AlreadyExists, EtagMismatch, Version, ConditionForm, ConditionPlace, RoleUnknown, RoleScope, PermissionUnknown, Limit, Hierarchy, GroupCycle, TagRule, InUse}
 use Rattle.iam_types.specs.declared.answer.Answer.{Answer}
 use Rattle.iam_types.specs.declared.answer.Answer.TheVariants.{Refused, Resource, Operation, Folders, Projects, TagBindings, DenyPolicies, Permissions, Policy, Group, Role, Explanation}
-use Rattle.iam_json_data.specs.Shown.{permission_data, binding_data}
-use Rattle.iam_json_data.proofs.Floats.{list_without_float, binding_without_float}
+use Rattle.iam_types.specs.declared.answer.Resource.{Resource as Thing}
+use Rattle.iam_types.specs.declared.answer.Resource.TheVariants as thing
+use Rattle.iam_json_data.specs.Shown.{permission_data, binding_data, node_data}
+use Rattle.iam_json_data.proofs.Floats.{list_without_float, binding_without_float, node_without_float}
 use Rattle.iam_json.specs.declared.details.Details.{Details}
 use Rattle.iam_json.specs.declared.details.Details.TheVariants as details
 use Rattle.iam_json.specs.Refusals.{Called, line_of, line_data, refusal_line, refusal_details, details_data, error_data}
 use Rattle.iam_json.specs.Answers.{answer_data}
+use Rattle.iam_json.specs.Resources.{resource_data}
 
 refusal_without_float : (refusal : Refusal) → has_float (refusal_details refusal) ≡ false
 refusal_without_float (FutureRevision asked known) = refl
@@ -54,12 +57,23 @@ line_without_float called d h = rw h refl
 pub error_without_float : (d : Details) → has_float (error_data d) ≡ false
 error_without_float d = line_without_float (line_of d) (details_data d) (details_without_float d)
 
+resource_without_float : (resource : Thing) → has_float (resource_data resource) ≡ false
+resource_without_float (thing.Organization number domain customer) = refl
+resource_without_float (thing.Node node) = node_without_float node
+resource_without_float (thing.TagKey organization key) = refl
+resource_without_float (thing.TagValue organization short value) = refl
+resource_without_float (thing.TagBinding binding) = refl
+resource_without_float (thing.DenyPolicy policy) = refl
+resource_without_float (thing.Boundary organization boundary) = refl
+resource_without_float (thing.BoundaryBinding organization binding) = refl
+resource_without_float thing.Nothing = refl
+
 pub answer_without_float : (answer : Answer) → has_float (answer_data answer) ≡ false
 answer_without_float (Refused refusal) = line_without_float (refusal_line refusal) (refusal_details refusal) (refusal_without_float refusal)
-answer_without_float (Resource resource) = refl
-answer_without_float (Operation revision response) = refl
-answer_without_float (Folders folders) = refl
-answer_without_float (Projects projects) = refl
+answer_without_float (Resource resource) = resource_without_float resource
+answer_without_float (Operation revision response) = rw (resource_without_float response) refl
+answer_without_float (Folders folders) = rw (list_without_float node_data folders node_without_float) refl
+answer_without_float (Projects projects) = rw (list_without_float node_data projects node_without_float) refl
 answer_without_float (TagBindings bindings) = refl
 answer_without_float (DenyPolicies policies) = refl
 answer_without_float (Permissions permissions) = rw (list_without_float permission_data permissions (λ p. refl)) refl

@@ -1,15 +1,18 @@
 -- The call of a route and a body.
-use Rattle.std.specs.Prelude.{◌≡◌, ℕ, List, [], ◌∷◌, Result}
+use Rattle.std.specs.Prelude.{◌≡◌, ℕ, List, [], ◌∷◌, Result, codes}
 use Rattle.serde_json.specs.Data.{Data}
 use Rattle.iam_names.specs.Node.{IsNodeName, node_text}
 use Rattle.iam_names.specs.declared.node.NodeName.{NodeName}
-use Rattle.iam_types.specs.declared.ask.Ask.TheVariants.{Test, Policy}
-use Rattle.iam_types.specs.declared.command.Command.TheVariants.{SetAllow}
+use Rattle.iam_types.specs.declared.ask.Ask.TheVariants.{Test, Policy, Node, Folders, Projects}
+use Rattle.iam_types.specs.declared.command.Command.TheVariants.{SetAllow, CreateFolder, CreateProject}
+use Rattle.iam_json_data.specs.Reading.{Then}
 use Rattle.iam_json.specs.Bodies.{Made, ReadsTest, ReadsReading, ReadsSetting}
+use Rattle.iam_json.specs.NodeBodies.{ReadsNothing, ReadsNewFolder, ReadsNewProject}
+use Rattle.iam_json.specs.Query.{ReadsNodeAt}
 use Rattle.iam_json.specs.declared.call.Call.{Call}
 use Rattle.iam_json.specs.declared.call.Call.TheVariants.{Write, Read}
 use Rattle.iam_json.specs.declared.route.Line.{Line}
-use Rattle.iam_json.specs.declared.route.Line.TheVariants.{TestPermissions, ReadPolicy, SetPolicy}
+use Rattle.iam_json.specs.declared.route.Line.TheVariants as line
 use Rattle.iam_json.specs.declared.route.Route.{Route}
 
 -- the node of a path
@@ -18,9 +21,14 @@ NamesNode parts node = IsNodeName node × (parts ≡ node_text node ∷ [])
 
 -- the parameters are those of the line's path
 abbrev pub HasParts : Line → List (List ℕ) → Type 0
-HasParts TestPermissions parts = (node : NodeName) × NamesNode parts node
-HasParts ReadPolicy parts = (node : NodeName) × NamesNode parts node
-HasParts SetPolicy parts = (node : NodeName) × NamesNode parts node
+HasParts line.TestPermissions parts = (node : NodeName) × NamesNode parts node
+HasParts line.ReadPolicy parts = (node : NodeName) × NamesNode parts node
+HasParts line.SetPolicy parts = (node : NodeName) × NamesNode parts node
+HasParts line.ReadNode parts = (node : NodeName) × NamesNode parts node
+HasParts line.ListFolders parts = parts ≡ []
+HasParts line.ListProjects parts = parts ≡ []
+HasParts line.CreateFolder parts = parts ≡ []
+HasParts line.CreateProject parts = parts ≡ []
 
 abbrev pub IsRoute : Route → Type 0
 IsRoute route = HasParts route.line route.parts
@@ -41,11 +49,35 @@ ReadsPolicySetting parts d said =
     (node : NodeName) × NamesNode parts node
     × Made (λ policy. Write (SetAllow node policy.version policy.etag policy.bindings)) (ReadsSetting d) said
 
+-- a reading of the node itself
+abbrev pub ReadsNodeReading : List (List ℕ) → Data → Result Call (List ℕ) → Type 0
+ReadsNodeReading parts d said =
+    (node : NodeName) × NamesNode parts node × Made (λ _. Read (Node node)) (ReadsNothing d) said
+
+-- a listing of the folders under the parent of the query, and of the projects
+abbrev pub ReadsFolderListing : List (List ℕ × List ℕ) → Data → Result Call (List ℕ) → Type 0
+ReadsFolderListing pairs d = Then (ReadsNodeAt (codes "parent") pairs) (λ parent. Made (λ _. Read (Folders parent)) (ReadsNothing d))
+
+abbrev pub ReadsProjectListing : List (List ℕ × List ℕ) → Data → Result Call (List ℕ) → Type 0
+ReadsProjectListing pairs d = Then (ReadsNodeAt (codes "parent") pairs) (λ parent. Made (λ _. Read (Projects parent)) (ReadsNothing d))
+
+-- a creation of a folder, and of a project
+abbrev pub ReadsFolderCreation : Data → Result Call (List ℕ) → Type 0
+ReadsFolderCreation d = Made (λ folder. Write (CreateFolder folder.parent folder.display)) (ReadsNewFolder d)
+
+abbrev pub ReadsProjectCreation : Data → Result Call (List ℕ) → Type 0
+ReadsProjectCreation d = Made (λ new. Write (CreateProject new.project new.parent new.display)) (ReadsNewProject d)
+
 -- what a line reads of the parameters of its path, of its query and of its body
 abbrev pub ReadsLine : Line → List (List ℕ) → List (List ℕ × List ℕ) → Data → Result Call (List ℕ) → Type 0
-ReadsLine TestPermissions parts pairs d said = ReadsPermissionsTest parts d said
-ReadsLine ReadPolicy parts pairs d said = ReadsPolicyReading parts d said
-ReadsLine SetPolicy parts pairs d said = ReadsPolicySetting parts d said
+ReadsLine line.TestPermissions parts pairs d said = ReadsPermissionsTest parts d said
+ReadsLine line.ReadPolicy parts pairs d said = ReadsPolicyReading parts d said
+ReadsLine line.SetPolicy parts pairs d said = ReadsPolicySetting parts d said
+ReadsLine line.ReadNode parts pairs d said = ReadsNodeReading parts d said
+ReadsLine line.ListFolders parts pairs d said = ReadsFolderListing pairs d said
+ReadsLine line.ListProjects parts pairs d said = ReadsProjectListing pairs d said
+ReadsLine line.CreateFolder parts pairs d said = ReadsFolderCreation d said
+ReadsLine line.CreateProject parts pairs d said = ReadsProjectCreation d said
 
 abbrev pub ReadsCall : Route → Data → Result Call (List ℕ) → Type 0
 ReadsCall route d said = ReadsLine route.line route.parts route.pairs d said

@@ -1,5 +1,8 @@
 pub mod Answers
 pub mod Bodies
 pub mod Calls
+pub mod NodeBodies
+pub mod Query
 pub mod Refusals
+pub mod Resources
 pub mod Seen

@@ -1,15 +1,19 @@
 // Answers as bodies.
 ghost use Rattle.std.specs.Prelude.{◌≡◌, IfOk};
 ghost use Rattle.serde_json.specs.View.{view};
+ghost use Rattle.iam_json_data.specs.Printed.{list_data};
+ghost use Rattle.iam_json_data.specs.Shown.{node_data};
 ghost use Rattle.iam_json.specs.Answers.{policy_data, answer_data, answer_text};
+ghost use Rattle.iam_json.specs.Refusals.{only};
 
 use crate::details::{empty, refusal_details};
 use crate::line::{line_value, refusal_line};
+use crate::resource::{operation_value, resource_value};
 use iam_json_data::{etag_value, list_value, text_of};
 use iam_names::PermissionName;
 use iam_text::{List, OutOfMemory, Text};
-use iam_types::{Answer, Binding};
-use serde_json::{Value, json};
+use iam_types::{Answer, Binding, Node};
+use serde_json::{Map, Value, json, put};
 use std::alloc::Global;
 
 fn permissions_value(
@@ -35,6 +39,20 @@ fn policy_value(
     Ok(json!(in alloc; {"bindings": list, "etag": etag, "version": version})?)
 }
 
+// Nodes, by the name of their list.
+fn nodes_value(alloc: Global, name: &str, nodes: &List<Node>) -> Result<Value, OutOfMemory>
+    ensures { IfOk result (λ v. view v ≡ only name.now (list_data node_data nodes.now)) }
+{
+    let mut members = Map::new(alloc);
+    put(
+        &mut members,
+        alloc,
+        name,
+        list_value(alloc, nodes.as_slice())?,
+    )?;
+    Ok(Value::Object(members))
+}
+
 // What is answered as a value. The kinds that no call gives yet are `{}`.
 fn answer_value(alloc: Global, answer: &Answer) -> Result<Value, OutOfMemory>
     ensures { IfOk result (λ v. view v ≡ answer_data answer.now) }
@@ -50,10 +68,10 @@ fn answer_value(alloc: Global, answer: &Answer) -> Result<Value, OutOfMemory>
             set,
             version,
         } => policy_value(alloc, bindings, *set, *version),
-        Answer::Resource(_) => Ok(empty(alloc)),
-        Answer::Operation { .. } => Ok(empty(alloc)),
-        Answer::Folders(_) => Ok(empty(alloc)),
-        Answer::Projects(_) => Ok(empty(alloc)),
+        Answer::Resource(resource) => resource_value(alloc, resource),
+        Answer::Operation { revision, response } => operation_value(alloc, *revision, response),
+        Answer::Folders(folders) => nodes_value(alloc, "folders", folders),
+        Answer::Projects(projects) => nodes_value(alloc, "projects", projects),
         Answer::TagBindings(_) => Ok(empty(alloc)),
         Answer::DenyPolicies(_) => Ok(empty(alloc)),
         Answer::Group { .. } => Ok(empty(alloc)),

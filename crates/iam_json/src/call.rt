@@ -7,6 +7,9 @@ ghost use Rattle.iam_json_data.specs.Reading.{Gives};
 ghost use Rattle.iam_json.specs.Bodies.{ReadsTest};
 ghost use Rattle.iam_json.specs.Calls.{IsRoute, NamesNode, ReadsPermissionsTest, ReadsPolicyReading, ReadsPolicySetting, ReadsCall};
 
+use crate::node_calls::{
+    folder_creation, folder_listing, node_reading, project_creation, project_listing,
+};
 use crate::policy::{read_reading, read_setting};
 use crate::route::{Line, Route};
 use iam_json_data::{BodyStop, bad_here, read_body, read_required};
@@ -23,7 +26,8 @@ pub enum Call {
     Read(Ask),
 }
 
-fn node_of(alloc: Global, parts: &[Text]) -> Result<NodeName, OutOfMemory>
+/// The node of a path.
+pub fn node_of(alloc: Global, parts: &[Text]) -> Result<NodeName, OutOfMemory>
     requires { (node : NodeName) × NamesNode parts.now node }
     ensures { IfOk result (NamesNode parts.now) }
 {
@@ -83,15 +87,21 @@ fn call_of(alloc: Global, route: &Route, value: &Value) -> Result<Call, BodyStop
     ensures { Gives (ReadsCall route.now (view value.now)) result }
 {
     let parts = route.parts.as_slice();
+    let pairs = route.pairs.as_slice();
     match route.line {
         Line::TestPermissions => permissions_test(alloc, parts, value),
         Line::ReadPolicy => policy_reading(alloc, parts, value),
         Line::SetPolicy => policy_setting(alloc, parts, value),
+        Line::ReadNode => node_reading(alloc, parts, value),
+        Line::ListFolders => folder_listing(alloc, pairs, value),
+        Line::ListProjects => project_listing(alloc, pairs, value),
+        Line::CreateFolder => folder_creation(alloc, value),
+        Line::CreateProject => project_creation(alloc, value),
     }
 }
 
 /// The call of a request. Unknown members are passed over, null counts as absent, and an empty body is `{}`. Of
-/// several bad members the first is named, in the order in which `specs/Bodies.antt` reads them.
+/// several bad members the first is named, in the order in which `specs/Calls.antt` reads them.
 pub fn read_call(alloc: Global, route: &Route, body: &[u8]) -> Result<Call, BodyStop>
     requires { IsRoute route.now }
     ensures { BodyGives (ReadsCall route.now) body.now result }

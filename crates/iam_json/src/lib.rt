@@ -10,8 +10,12 @@ mod call;
 mod details;
 mod laws;
 mod line;
+mod node;
+mod node_calls;
 mod policy;
+mod query;
 mod reply;
+mod resource;
 mod route;
 
 pub use answer::answer_body;

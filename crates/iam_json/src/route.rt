@@ -10,10 +10,19 @@ pub enum Line {
     ReadPolicy,
     /// `POST /v3/{node}:setIamPolicy`.
     SetPolicy,
+    /// `GET /v3/{node}`.
+    ReadNode,
+    /// `GET /v3/folders?parent=`.
+    ListFolders,
+    /// `GET /v3/projects?parent=`.
+    ListProjects,
+    /// `POST /v3/folders`.
+    CreateFolder,
+    /// `POST /v3/projects`.
+    CreateProject,
 }
 
-/// A line of the route table, with the decoded parameters of the path, and what the query has of the parameters that the
-/// line reads, by their names.
+/// A line of the route table, with the decoded parameters of the path and those of the query, names and values.
 #[derive(Drop)]
 pub struct Route {
     pub line: Line,

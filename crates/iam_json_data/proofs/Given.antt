@@ -36,12 +36,17 @@ read_ok a = Ok a
 same_given : {A : Type 0} (a b : A) → read_ok a ≡ read_ok b → a ≡ b
 same_given a b is = cc is
 
+-- of a member that may be absent, either way
+pub maybe_is : {A : Type 0} (reads : Data → Result A (List ℕ) → Type 0) (P : Option A → Type 0) → P None → ((d : Data) (a : A) → reads d (Ok a) → P (Some a)) → (name : List ℕ) (there : Option Data) (value : Option A) →
+    ReadsMember reads name there (Ok value) → P value
+maybe_is reads P absent each name None value is = subst P (sym (same_given value None is)) absent
+maybe_is reads P absent each name (Some d) None is = absurd is
+maybe_is reads P absent each name (Some d) (Some a) is = each d a is
+
 -- of a list that may be absent
 pub member_is : {A : Type 0} (reads : Data → Result A (List ℕ) → Type 0) (P : A → Type 0) → ((d : Data) (a : A) → reads d (Ok a) → P a) → (name : List ℕ) (there : Option Data) (values : Option (List A)) →
     ReadsMember (ReadsList reads) name there (Ok values) → All P (unwrap_or values [])
-member_is reads P each name None values is = subst (λ given. All P (unwrap_or given [])) (sym (same_given values None is)) (All-nil P)
-member_is reads P each name (Some d) None is = absurd is
-member_is reads P each name (Some d) (Some values) is = list_is reads P each (as_array d) values is
+member_is {A} reads P each = maybe_is (ReadsList reads) (λ (given : Option (List A)). All P (unwrap_or given [])) (All-nil P) (λ d values is. list_is reads P each (as_array d) values is)
 
 text_is : {A : Type 0} (P : A → Type 0) (text : A → List ℕ) (d : Data) (a : A) → ReadsText P text d (Ok a) → P a
 text_is P text d a is = is.0

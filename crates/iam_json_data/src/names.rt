@@ -3,7 +3,7 @@ ghost use Rattle.std.specs.Prelude.{◌≡◌, [], MatchOption, Ok, Err};
 
 use crate::member::FromJson;
 use crate::stop::{BodyStop, bad_here};
-use iam_names::{Member, PermissionName, RoleName};
+use iam_names::{Member, NodeName, PermissionName, RoleName};
 use serde_json::Value;
 use std::alloc::Global;
 
@@ -26,6 +26,20 @@ impl FromJson for PermissionName {
     fn from_json(alloc: Global, value: &Value) -> Result<PermissionName, BodyStop> {
         match value.as_str() {
             Some(text) => whole(alloc, PermissionName::read(alloc, text)?),
+            None => Err(bad_here(alloc)),
+        }
+    }
+}
+
+impl FromJson for NodeName {
+    ghost use Rattle.iam_names.specs.Node.{IsNodeName, node_text};
+    ghost use Rattle.iam_json_data.specs.Reading.{ReadsText};
+
+    ghost reads = { ReadsText IsNodeName node_text };
+
+    fn from_json(alloc: Global, value: &Value) -> Result<NodeName, BodyStop> {
+        match value.as_str() {
+            Some(text) => whole(alloc, NodeName::read(alloc, text)?),
             None => Err(bad_here(alloc)),
         }
     }
