@@ -22,6 +22,7 @@ use Rattle.iam_wire.specs.declared.message.Field.{Field}
 use Rattle.iam_wire.specs.declared.message.Field.TheVariants.{Absent, One, Bad}
 use Rattle.iam_wire.specs.declared.message.Message.{Message}
 use Rattle.iam_routes.specs.Asked.{IsAsked, NamesCaller}
+use Rattle.iam_routes.specs.Query.{pairs_of}
 use Rattle.iam_routes.specs.Routes.{RouteLine, IsCut, IsVerb, Reaches, colon, lines, path_of}
 use Rattle.iam_routes.specs.declared.given.Asked.TheVariants.{Given}
 use Rattle.iam_answer.proofs.Given.{command_is}
@@ -39,7 +40,7 @@ caller_is Bad caller is = absurd is
 pub write_is : (message : Message) (caller : Caller) (floor : Option ℕ) (command : Command) → IsAsked message (Given caller floor (Write command)) → IsCaller caller × IsCommand command
 write_is message caller floor command asked =
     let call = asked.2 in
-    (caller_is message.caller caller asked.0, command_is call.0.line call.1.0 [] call.1.2.0 command call.1.2.2)
+    (caller_is message.caller caller asked.0, command_is call.0.line call.1.0 (pairs_of message.target) call.1.2.0 command call.1.2.2)
 
 -- ---- which lines ask for no change
 
@@ -122,7 +123,7 @@ read_only message caller floor ask asked =
     let reaches = call.1.1 in
     by_line message call.0 call.1.0 reaches
     ∙ sym (lines_agree (reverse reaches.path.0) call.0 reaches.on_table)
-    ∙ read_line call.0.line call.1.0 [] call.1.2.0 ask call.1.2.2
+    ∙ read_line call.0.line call.1.0 (pairs_of message.target) call.1.2.0 ask call.1.2.2
 
 pub write_not_only : (message : Message) (e : Entry) (floor : Option ℕ) → IsAsked message (Given e.caller floor (Write e.command)) → only_reads message ≡ false
 write_not_only message e floor asked =
@@ -130,4 +131,4 @@ write_not_only message e floor asked =
     let reaches = call.1.1 in
     by_line message call.0 call.1.0 reaches
     ∙ sym (lines_agree (reverse reaches.path.0) call.0 reaches.on_table)
-    ∙ write_line call.0.line call.1.0 [] call.1.2.0 e.command call.1.2.2
+    ∙ write_line call.0.line call.1.0 (pairs_of message.target) call.1.2.0 e.command call.1.2.2

@@ -1,5 +1,5 @@
 -- A message asks one thing.
-use Rattle.std.proofs.Common.{◌≡◌, ◌≢◌, ℕ, List, [], inl, inr, Option, Some, None, Result, Ok, Err, refl, sym, ap, ◌∙◌, subst}
+use Rattle.std.proofs.Common.{◌≡◌, ◌≢◌, ℕ, List, inl, inr, Option, Some, None, Result, Ok, Err, refl, sym, ap, ◌∙◌, subst}
 use Rattle.serde_json.specs.Data.{Data}
 use Rattle.iam_names.specs.declared.caller.Caller.{Caller}
 use Rattle.iam_names.proofs.Told.{caller_told}
@@ -17,6 +17,7 @@ use Rattle.iam_json.specs.declared.details.Details.TheVariants.{BadHead, BadJson
 use Rattle.iam_json.proofs.One.{line_one}
 use Rattle.iam_json.specs.Refusals.{line_of}
 use Rattle.iam_json.specs.declared.reply.ErrorReply.{ErrorReply}
+use Rattle.iam_routes.specs.Query.{pairs_of}
 use Rattle.iam_routes.specs.Routes.{RouteLine, IsOnTable}
 use Rattle.iam_routes.specs.Asked.{NamesCaller, NamesFloor, HasRoute, HasCaller, HasFloor, CallGives, floor_name, IsRefused, IsAsked, AtMostOneAsking}
 use Rattle.iam_routes.specs.declared.given.Asked.TheVariants.{Refused, Given}
@@ -32,44 +33,48 @@ one_floor Absent floor other named also = named ∙ sym also
 one_floor (One text) floor other named also = named.1 ∙ sym named.2 ∙ also.2 ∙ sym also.1
 one_floor Bad floor other named also = absurd named
 
--- what a body gives on a line, as far as memory goes
-abbrev GivesLine : RouteLine → List (List ℕ) → List ℕ → Result Call BodyStop → Type 0
-GivesLine line parts body said = BodyGives (ReadsLine line.line parts []) body said
+abbrev Pairs : Type 0
+Pairs = List (List ℕ × List ℕ)
+
+-- what the parameters and a body give on a line, as far as memory goes
+abbrev GivesLine : RouteLine → List (List ℕ) → Pairs → List ℕ → Result Call BodyStop → Type 0
+GivesLine line parts pairs body said = BodyGives (ReadsLine line.line parts pairs) body said
 
 -- the line and the parts of one are those of the other
-same_line : (message : Message) (said other : Result Call BodyStop) (gives : CallGives message said) (also : CallGives message other) → GivesLine also.0 also.1.0 message.body said
+same_line : (message : Message) (said other : Result Call BodyStop) (gives : CallGives message said) (also : CallGives message other) → GivesLine also.0 also.1.0 (pairs_of message.target) message.body said
 same_line message said other gives also =
     let same = one_line message.method message.target gives.0 also.0 gives.1.0 also.1.0 gives.1.1 also.1.1 in
-    subst (λ (p : List (List ℕ)). GivesLine also.0 p message.body said) same.1 (subst (λ (l : RouteLine). GivesLine l gives.1.0 message.body said) same.0 gives.1.2)
+    subst (λ (p : List (List ℕ)). GivesLine also.0 p (pairs_of message.target) message.body said) same.1
+    (subst (λ (l : RouteLine). GivesLine l gives.1.0 (pairs_of message.target) message.body said) same.0 gives.1.2)
 
 -- the answers of the one data
-one_data : (line : Line) (parts : List (List ℕ)) (body : List ℕ) (d e : Data) (said other : Result Call (List ℕ)) → body_data body ≡ Some d → body_data body ≡ Some e
-    → ReadsLine line parts [] d said → ReadsLine line parts [] e other → said ≡ other
-one_data line parts body d e said other is also h g =
+one_data : (line : Line) (parts : List (List ℕ)) (pairs : Pairs) (body : List ℕ) (d e : Data) (said other : Result Call (List ℕ)) → body_data body ≡ Some d → body_data body ≡ Some e
+    → ReadsLine line parts pairs d said → ReadsLine line parts pairs e other → said ≡ other
+one_data line parts pairs body d e said other is also h g =
     let both = sym is ∙ also in
     let same : d ≡ e = cc both in
-    line_one line parts [] e said other (subst (λ (x : Data). ReadsLine line parts [] x said) same h) g
+    line_one line parts pairs e said other (subst (λ (x : Data). ReadsLine line parts pairs x said) same h) g
 
 -- the body says one thing, memory apart
-said_one : (line : Line) (parts : List (List ℕ)) (body : List ℕ) (said other : Result Call BodyStop) → said ≢ Err stop.OutOfMemory → other ≢ Err stop.OutOfMemory
-    → BodyGives (ReadsLine line parts []) body said → BodyGives (ReadsLine line parts []) body other → said ≡ other
-said_one line parts body (Ok a) (Ok b) free idle h g = let e = one_data line parts body h.0 g.0 (Ok a) (Ok b) h.1 g.1 h.2 g.2 in let same : a ≡ b = cc e in ap Ok same
-said_one line parts body (Ok a) (Err stop.BadJson) free idle h g = let both = sym h.1 ∙ g in absurd (cc both)
-said_one line parts body (Ok a) (Err (stop.BadField q)) free idle h g = let e = one_data line parts body h.0 g.0 (Ok a) (Err q) h.1 g.1 h.2 g.2 in absurd (cc e)
-said_one line parts body (Ok a) (Err stop.OutOfMemory) free idle h g = absurd (idle refl)
-said_one line parts body (Err stop.BadJson) (Ok b) free idle h g = let both = sym h ∙ g.1 in absurd (cc both)
-said_one line parts body (Err stop.BadJson) (Err stop.BadJson) free idle h g = refl
-said_one line parts body (Err stop.BadJson) (Err (stop.BadField q)) free idle h g = let both = sym h ∙ g.1 in absurd (cc both)
-said_one line parts body (Err stop.BadJson) (Err stop.OutOfMemory) free idle h g = absurd (idle refl)
-said_one line parts body (Err (stop.BadField p)) (Ok b) free idle h g = let e = one_data line parts body h.0 g.0 (Err p) (Ok b) h.1 g.1 h.2 g.2 in absurd (cc e)
-said_one line parts body (Err (stop.BadField p)) (Err stop.BadJson) free idle h g = let both = sym h.1 ∙ g in absurd (cc both)
-said_one line parts body (Err (stop.BadField p)) (Err (stop.BadField q)) free idle h g = let e = one_data line parts body h.0 g.0 (Err p) (Err q) h.1 g.1 h.2 g.2 in let same : p ≡ q = cc e in cc same
-said_one line parts body (Err (stop.BadField p)) (Err stop.OutOfMemory) free idle h g = absurd (idle refl)
-said_one line parts body (Err stop.OutOfMemory) other free idle h g = absurd (free refl)
+said_one : (line : Line) (parts : List (List ℕ)) (pairs : Pairs) (body : List ℕ) (said other : Result Call BodyStop) → said ≢ Err stop.OutOfMemory → other ≢ Err stop.OutOfMemory
+    → BodyGives (ReadsLine line parts pairs) body said → BodyGives (ReadsLine line parts pairs) body other → said ≡ other
+said_one line parts pairs body (Ok a) (Ok b) free idle h g = let e = one_data line parts pairs body h.0 g.0 (Ok a) (Ok b) h.1 g.1 h.2 g.2 in let same : a ≡ b = cc e in ap Ok same
+said_one line parts pairs body (Ok a) (Err stop.BadJson) free idle h g = let both = sym h.1 ∙ g in absurd (cc both)
+said_one line parts pairs body (Ok a) (Err (stop.BadField q)) free idle h g = let e = one_data line parts pairs body h.0 g.0 (Ok a) (Err q) h.1 g.1 h.2 g.2 in absurd (cc e)
+said_one line parts pairs body (Ok a) (Err stop.OutOfMemory) free idle h g = absurd (idle refl)
+said_one line parts pairs body (Err stop.BadJson) (Ok b) free idle h g = let both = sym h ∙ g.1 in absurd (cc both)
+said_one line parts pairs body (Err stop.BadJson) (Err stop.BadJson) free idle h g = refl
+said_one line parts pairs body (Err stop.BadJson) (Err (stop.BadField q)) free idle h g = let both = sym h ∙ g.1 in absurd (cc both)
+said_one line parts pairs body (Err stop.BadJson) (Err stop.OutOfMemory) free idle h g = absurd (idle refl)
+said_one line parts pairs body (Err (stop.BadField p)) (Ok b) free idle h g = let e = one_data line parts pairs body h.0 g.0 (Err p) (Ok b) h.1 g.1 h.2 g.2 in absurd (cc e)
+said_one line parts pairs body (Err (stop.BadField p)) (Err stop.BadJson) free idle h g = let both = sym h.1 ∙ g in absurd (cc both)
+said_one line parts pairs body (Err (stop.BadField p)) (Err (stop.BadField q)) free idle h g = let e = one_data line parts pairs body h.0 g.0 (Err p) (Err q) h.1 g.1 h.2 g.2 in let same : p ≡ q = cc e in cc same
+said_one line parts pairs body (Err (stop.BadField p)) (Err stop.OutOfMemory) free idle h g = absurd (idle refl)
+said_one line parts pairs body (Err stop.OutOfMemory) other free idle h g = absurd (free refl)
 
 one_call : (message : Message) (said other : Result Call BodyStop) → said ≢ Err stop.OutOfMemory → other ≢ Err stop.OutOfMemory → CallGives message said → CallGives message other → said ≡ other
 one_call message said other free idle gives also =
-    said_one also.0.line also.1.0 message.body said other free idle (same_line message said other gives also) also.1.2
+    said_one also.0.line also.1.0 (pairs_of message.target) message.body said other free idle (same_line message said other gives also) also.1.2
 
 -- ---- what is asked, by where it is decided
 

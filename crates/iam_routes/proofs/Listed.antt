@@ -1,18 +1,20 @@
 -- The lines of the definition and the code's table, and what a line of the table has.
-use Rattle.std.proofs.Common.{◌≡◌, ℕ, zero, suc, ◌<◌, Bool, true, not, ◌&&◌, ◌||◌, List, [], ◌∷◌, ◌++◌, map, length, get_or, codes, Some, inl, inr, ◌⊎◌, ⊎_elim, refl, sym, ap, ◌∙◌, subst, arith}
-use Rattle.std.specs.List.{Contains, list_all, flat_map}
+use Rattle.std.proofs.Common.{◌≡◌, ℕ, zero, suc, ◌<◌, Bool, true, not, ◌&&◌, ◌||◌, List, [], ◌∷◌, ◌++◌, map, length, get_or, codes, Some, None, inl, inr, ◌⊎◌, ⊎_elim, refl, sym, ap, ◌∙◌, subst, arith}
+use Rattle.std.specs.List.{All, Contains, list_all, flat_map}
 use Rattle.std.specs.Bool.{◌==◌}
 use Rattle.std.specs.Cmp.Lexicographic.{pointwise}
 use Rattle.std.proofs.lemmas.Bool.{and_parts}
 use Rattle.std.proofs.lemmas.List.Concat.{flat_map-cons}
-use Rattle.std.proofs.lemmas.List.Elements.{All-cons, All-nil, All-contains, Contains-append_cases, Contains-append_left, Contains-append_right}
+use Rattle.std.proofs.lemmas.List.Elements.{All-append, All-cons, All-nil, All-contains, Contains-append_cases, Contains-append_left, Contains-append_right}
 use Rattle.std.proofs.lemmas.List.Sums.{AllPass-from_list_all}
+use Rattle.iam_names.specs.declared.node.NodeKind.{NodeKind}
+use Rattle.iam_names.specs.declared.node.NodeKind.TheVariants.{Organization, Folder, Project}
 use Rattle.iam_names.specs.declared.node.NodeName.{NodeName}
 use Rattle.iam_json.specs.Calls.{HasParts, NamesNode}
 use Rattle.iam_routes.specs.Matched.{IsTable}
 use Rattle.iam_routes.specs.Routed.{pieces_of, same_verb, seen_line, seen_path}
-use Rattle.iam_json.specs.declared.route.Line.TheVariants.{TestPermissions, ReadPolicy, SetPolicy}
-use Rattle.iam_routes.specs.Routes.{Piece, RouteLine, route_line, lines, organization_path, IsPath}
+use Rattle.iam_json.specs.declared.route.Line.TheVariants.{TestPermissions, ReadPolicy, SetPolicy, ReadNode, ListFolders, ListProjects, CreateFolder, CreateProject}
+use Rattle.iam_routes.specs.Routes.{Piece, RouteLine, route_line, lines, collection_lines, collection_path, node_lines, node_path, IsPath}
 use Rattle.iam_routes.specs.declared.table.PathLine.{PathLine}
 use Rattle.iam_routes.specs.declared.table.TablePath.{TablePath}
 use Rattle.iam_routes.proofs.Segments.{paths_apart}
@@ -73,8 +75,8 @@ listed_line paths path line table there here = subst (λ l. Contains l line) tab
 
 -- ---- the parts of a line
 
-organization_parts : (place : List ℕ) (parts : List (List ℕ)) → IsPath organization_path place parts → (node : NodeName) × NamesNode parts node
-organization_parts place parts first =
+node_parts : (kind : NodeKind) (place : List ℕ) (parts : List (List ℕ)) → IsPath (node_path kind) place parts → (node : NodeName) × NamesNode parts node
+node_parts kind place parts first =
     let second = first.5 in
     let third = second.5 in
     let named = third.3.gives in
@@ -85,20 +87,52 @@ organization_parts place parts first =
     in
     (named.1.0, (named.1.1, all ∙ ap (λ p. p ∷ []) named.1.2))
 
+collection_parts : (kind : NodeKind) (place : List ℕ) (parts : List (List ℕ)) → IsPath (collection_path kind) place parts → parts ≡ []
+collection_parts kind place parts first =
+    let second = first.5 in
+    first.4 ∙ ap (λ g. g ++ first.2) first.3.gives.1 ∙ second.4 ∙ ap (λ g. g ++ second.2) second.3.gives.1 ∙ second.5.1
+
 abbrev GivesParts : RouteLine → Type 0
 GivesParts line = (place : List ℕ) (parts : List (List ℕ)) → IsPath line.path place parts → HasParts line.line parts
 
-pub has_parts : (line : RouteLine) → Contains lines line → GivesParts line
+node_lines_give : (kind : NodeKind) → All GivesParts (node_lines kind)
+node_lines_give kind =
+    let test : RouteLine = route_line TestPermissions (codes "POST") (node_path kind) (Some (codes "testIamPermissions")) in
+    let policy : RouteLine = route_line ReadPolicy (codes "POST") (node_path kind) (Some (codes "getIamPolicy")) in
+    let set : RouteLine = route_line SetPolicy (codes "POST") (node_path kind) (Some (codes "setIamPolicy")) in
+    let read : RouteLine = route_line ReadNode (codes "GET") (node_path kind) None in
+    All-cons GivesParts test (policy ∷ set ∷ read ∷ []) (node_parts kind)
+    (All-cons GivesParts policy (set ∷ read ∷ []) (node_parts kind)
+    (All-cons GivesParts set (read ∷ []) (node_parts kind)
+    (All-cons GivesParts read [] (node_parts kind) (All-nil GivesParts))))
+
+-- two lines of a collection
+two_lines_give : (first second : RouteLine) → GivesParts first → GivesParts second → All GivesParts (first ∷ second ∷ [])
+two_lines_give first second one two = All-cons GivesParts first (second ∷ []) one (All-cons GivesParts second [] two (All-nil GivesParts))
+
+folder_lines_give : All GivesParts (collection_lines Folder ListFolders CreateFolder)
+folder_lines_give =
+    two_lines_give (route_line ListFolders (codes "GET") (collection_path Folder) None) (route_line CreateFolder (codes "POST") (collection_path Folder) None)
+    (collection_parts Folder) (collection_parts Folder)
+
+project_lines_give : All GivesParts (collection_lines Project ListProjects CreateProject)
+project_lines_give =
+    two_lines_give (route_line ListProjects (codes "GET") (collection_path Project) None) (route_line CreateProject (codes "POST") (collection_path Project) None)
+    (collection_parts Project) (collection_parts Project)
+
+abbrev collections : List RouteLine
+collections = collection_lines Folder ListFolders CreateFolder ++ collection_lines Project ListProjects CreateProject
+
+all_give : All GivesParts lines
 unfolding lines
-has_parts line there =
-    let test : RouteLine = route_line TestPermissions (codes "POST") organization_path (Some (codes "testIamPermissions")) in
-    let read : RouteLine = route_line ReadPolicy (codes "POST") organization_path (Some (codes "getIamPolicy")) in
-    let set : RouteLine = route_line SetPolicy (codes "POST") organization_path (Some (codes "setIamPolicy")) in
-    All-contains GivesParts lines line
-    (All-cons GivesParts test (read ∷ set ∷ []) organization_parts
-    (All-cons GivesParts read (set ∷ []) organization_parts
-    (All-cons GivesParts set [] organization_parts (All-nil GivesParts))))
-    there
+all_give =
+    All-append GivesParts (node_lines Organization) (node_lines Folder ++ (node_lines Project ++ collections)) (node_lines_give Organization)
+    (All-append GivesParts (node_lines Folder) (node_lines Project ++ collections) (node_lines_give Folder)
+    (All-append GivesParts (node_lines Project) collections (node_lines_give Project)
+    (All-append GivesParts (collection_lines Folder ListFolders CreateFolder) (collection_lines Project ListProjects CreateProject) folder_lines_give project_lines_give)))
+
+pub has_parts : (line : RouteLine) → Contains lines line → GivesParts line
+has_parts line there = All-contains GivesParts lines line all_give there
 
 -- ---- two lines are told apart
 

@@ -1,5 +1,5 @@
 -- What a message alone gives: the first refusal, else the caller, the floor and the call.
-use Rattle.std.specs.Prelude.{◌≡◌, ◌≢◌, ℕ, ◌⊎◌, List, [], codes, Option, Some, None, Result, Ok, Err}
+use Rattle.std.specs.Prelude.{◌≡◌, ◌≢◌, ℕ, ◌⊎◌, List, codes, Option, Some, None, Result, Ok, Err}
 use Rattle.iam_names.specs.Caller.{caller_text, IsCaller}
 use Rattle.iam_names.specs.declared.caller.Caller.{Caller}
 use Rattle.iam_names.specs.declared.caller.Caller.TheVariants.{Anonymous}
@@ -16,6 +16,7 @@ use Rattle.iam_json.specs.Refusals.{line_of}
 use Rattle.iam_json.specs.declared.call.Call.{Call}
 use Rattle.iam_json.specs.declared.details.Details.{Details}
 use Rattle.iam_json.specs.declared.details.Details.TheVariants.{BadHead, BadJson, BadField, NoRoute, BadMethod, BodyTooLarge, NeedLength, BadCaller, Refused as RefusedInState, KeeperFault, ClockFault, OutOfMemory}
+use Rattle.iam_routes.specs.Query.{pairs_of}
 use Rattle.iam_routes.specs.Routes.{RouteLine, IsOnTable, Reaches}
 use Rattle.iam_routes.specs.declared.given.Asked.{Asked}
 use Rattle.iam_routes.specs.declared.given.Asked.TheVariants.{Refused, Given}
@@ -44,10 +45,12 @@ HasCaller message = (caller : Caller) × NamesCaller message.caller caller
 abbrev pub HasFloor : Message → Type 0
 HasFloor message = (floor : Option ℕ) × NamesFloor message.floor floor
 
--- the body, read as that of the line of the message, gives this. No line reads a query yet
+-- the parameters and the body, read as those of the line of the message, give this
 abbrev pub CallGives : Message → Result Call BodyStop → Type 0
 CallGives message said =
-    (line : RouteLine) × ((parts : List (List ℕ)) × Reaches message.method message.target line parts × BodyGives (ReadsLine line.line parts []) message.body said)
+    (line : RouteLine)
+    × ((parts : List (List ℕ)) × Reaches message.method message.target line parts
+    × BodyGives (ReadsLine line.line parts (pairs_of message.target)) message.body said)
 
 abbrev pub floor_name : List ℕ
 floor_name = codes "x-iam-min-revision"

@@ -1,5 +1,5 @@
 -- The code's table, and the route of a message.
-use Rattle.std.specs.Prelude.{◌≡◌, ◌≢◌, ℕ, ◌<◌, ◌≤◌, Bool, true, false, List, [], map, length, get_or, Contains}
+use Rattle.std.specs.Prelude.{◌≡◌, ◌≢◌, ℕ, ◌<◌, ◌≤◌, Bool, true, false, List, map, length, get_or, Contains}
 use Rattle.std.specs.Borrow.{Bor}
 use Rattle.std.specs.Option.{option_map}
 use Rattle.std.specs.Str.{bytes_eq}
@@ -9,6 +9,7 @@ use Rattle.iam_names.specs.declared.caller.Caller.{Caller}
 use Rattle.iam_wire.specs.declared.message.Field.{Field}
 use Rattle.iam_routes.specs.Asked.{NamesCaller, NamesFloor}
 use Rattle.iam_routes.specs.Places.{seen_piece}
+use Rattle.iam_routes.specs.Query.{pairs_of}
 use Rattle.iam_routes.specs.Routes.{Piece, RouteLine, route_line, lines, IsPath, IsOnTable, Reaches}
 use Rattle.iam_routes.specs.declared.line.Found.{Found}
 use Rattle.iam_routes.specs.declared.line.Found.TheVariants.{NoVerb, NoMethod, At}
@@ -64,7 +65,7 @@ abbrev pub IsRouted : List ℕ → List ℕ → Routed → Type 0
 IsRouted method target NoRoute = ¬ (IsOnTable target)
 IsRouted method target BadMethod = IsOnTable target × ((line : RouteLine) (parts : List (List ℕ)) → ¬ (Reaches method target line parts))
 IsRouted method target (To route) =
-    (line : RouteLine) × Reaches method target line route.parts × (line.line ≡ route.line) × (route.pairs ≡ [])
+    (line : RouteLine) × Reaches method target line route.parts × (line.line ≡ route.line) × (route.pairs ≡ pairs_of target)
 
 -- the caller that the header names
 abbrev pub IsCallerOf : Field → Option Caller → Type 0

@@ -7,10 +7,10 @@ use Rattle.std.specs.declared.option.Option.TheVariants.{None, Some}
 use Rattle.percent_encoding.specs.Percent.{percent_decode}
 use Rattle.iam_names.specs.Node.{collection_of, IsNodeName, node_text}
 use Rattle.iam_names.specs.declared.node.NodeKind.{NodeKind}
-use Rattle.iam_names.specs.declared.node.NodeKind.TheVariants.{Organization}
+use Rattle.iam_names.specs.declared.node.NodeKind.TheVariants.{Organization, Folder, Project}
 use Rattle.iam_names.specs.declared.node.NodeName.{NodeName}
 use Rattle.iam_json.specs.declared.route.Line.{Line}
-use Rattle.iam_json.specs.declared.route.Line.TheVariants.{TestPermissions, ReadPolicy, SetPolicy}
+use Rattle.iam_json.specs.declared.route.Line.TheVariants.{TestPermissions, ReadPolicy, SetPolicy, ReadNode, ListFolders, ListProjects, CreateFolder, CreateProject}
 
 -- ---- the table
 
@@ -29,16 +29,41 @@ pub record RouteLine : Type 0 where
 abbrev pub route_line : Line → List ℕ → List Piece → Option (List ℕ) → RouteLine
 route_line line method path verb = record { line = line; method = method; path = path; verb = verb }
 
--- `/v3/organizations/N`: `/v3/{node}`, as far as nodes are named
-abbrev pub organization_path : List Piece
-organization_path = fixed (codes "v3") ∷ fixed (codes "organizations") ∷ node_in Organization ∷ []
+-- how a collection is called
+abbrev pub collection : NodeKind → List ℕ
+collection Organization = codes "organizations"
+collection Folder = codes "folders"
+collection Project = codes "projects"
+
+-- `/v3/folders`, and the like
+abbrev pub collection_path : NodeKind → List Piece
+collection_path kind = fixed (codes "v3") ∷ fixed (collection kind) ∷ []
+
+-- `/v3/{node}`, for the nodes of a kind: `/v3/organizations/N`, `/v3/folders/N`, `/v3/projects/N` or `/v3/projects/PID`
+abbrev pub node_path : NodeKind → List Piece
+node_path kind = fixed (codes "v3") ∷ fixed (collection kind) ∷ node_in kind ∷ []
+
+-- the lines of a node
+abbrev pub node_lines : NodeKind → List RouteLine
+node_lines kind =
+    route_line TestPermissions (codes "POST") (node_path kind) (Some (codes "testIamPermissions"))
+    ∷ route_line ReadPolicy (codes "POST") (node_path kind) (Some (codes "getIamPolicy"))
+    ∷ route_line SetPolicy (codes "POST") (node_path kind) (Some (codes "setIamPolicy"))
+    ∷ route_line ReadNode (codes "GET") (node_path kind) None
+    ∷ []
+
+-- the lines of a collection, of which one lists it, and one makes what is in it
+abbrev pub collection_lines : NodeKind → Line → Line → List RouteLine
+collection_lines kind lists makes =
+    route_line lists (codes "GET") (collection_path kind) None ∷ route_line makes (codes "POST") (collection_path kind) None ∷ []
 
 unfoldable pub lines : List RouteLine
 lines =
-    route_line TestPermissions (codes "POST") organization_path (Some (codes "testIamPermissions"))
-    ∷ route_line ReadPolicy (codes "POST") organization_path (Some (codes "getIamPolicy"))
-    ∷ route_line SetPolicy (codes "POST") organization_path (Some (codes "setIamPolicy"))
-    ∷ []
+    node_lines Organization
+    ++ (node_lines Folder
+    ++ (node_lines Project
+    ++ (collection_lines Folder ListFolders CreateFolder
+    ++ collection_lines Project ListProjects CreateProject)))
 
 -- ---- the path of a target
 

@@ -11,6 +11,7 @@ mod laws;
 mod line;
 mod message;
 mod parts;
+mod query;
 mod route;
 mod routes;
 mod segment;

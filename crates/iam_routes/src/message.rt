@@ -79,8 +79,8 @@ fn call_of(
     }
 }
 
-/// What a message asks for, or why it is refused: its path, its method, its caller, whether its body is JSON, its floor and the
-/// members of its body are looked at in this order. A query behind the path isn't looked at, since no line reads one yet.
+/// What a message asks for, or why it is refused: its path, its method, its caller, whether its body is JSON, its floor, the
+/// parameters of its query and the members of its body are looked at in this order.
 pub fn asked(alloc: Global, message: &Message, routes: &Routes) -> Result<Asked, OutOfMemory>
     ensures { IfOk result (IsAsked message.now) }
 {

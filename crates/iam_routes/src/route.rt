@@ -4,10 +4,11 @@ ghost use Rattle.iam_routes.specs.Routed.{IsRouted};
 
 use crate::line::{Found, line_of};
 use crate::parts::parts_of;
+use crate::query::pairs_of;
 use crate::routes::Routes;
 use crate::target::{cut, path_of};
 use iam_json::Route;
-use iam_text::{List, OutOfMemory};
+use iam_text::OutOfMemory;
 use std::alloc::Global;
 
 /// The route of a message, or why it has none.
@@ -39,7 +40,7 @@ pub fn route_of(
         Found::At(line) => Ok(Routed::To(Route {
             line,
             parts,
-            pairs: List::new(alloc),
+            pairs: pairs_of(alloc, target)?,
         })),
     }
 }

@@ -27,26 +27,76 @@ const V3: Piece = Piece::Fixed("v3");
 
 const ORGANIZATIONS: Piece = Piece::Fixed("organizations");
 
-const ORGANIZATION: Piece = Piece::NodeIn(NodeKind::Organization);
+const FOLDERS: Piece = Piece::Fixed("folders");
+
+const PROJECTS: Piece = Piece::Fixed("projects");
+
+/// The lines of a node.
+const NODE_LINES: &[PathLine] = &[
+    PathLine {
+        line: Line::TestPermissions,
+        method: "POST",
+        verb: Some("testIamPermissions"),
+    },
+    PathLine {
+        line: Line::ReadPolicy,
+        method: "POST",
+        verb: Some("getIamPolicy"),
+    },
+    PathLine {
+        line: Line::SetPolicy,
+        method: "POST",
+        verb: Some("setIamPolicy"),
+    },
+    PathLine {
+        line: Line::ReadNode,
+        method: "GET",
+        verb: None,
+    },
+];
 
 /// The paths of the table, each once.
-pub static PATHS: [TablePath; 1] = [TablePath {
-    pieces: &[V3, ORGANIZATIONS, ORGANIZATION],
-    lines: &[
-        PathLine {
-            line: Line::TestPermissions,
-            method: "POST",
-            verb: Some("testIamPermissions"),
-        },
-        PathLine {
-            line: Line::ReadPolicy,
-            method: "POST",
-            verb: Some("getIamPolicy"),
-        },
-        PathLine {
-            line: Line::SetPolicy,
-            method: "POST",
-            verb: Some("setIamPolicy"),
-        },
-    ],
-}];
+pub static PATHS: [TablePath; 5] = [
+    TablePath {
+        pieces: &[V3, ORGANIZATIONS, Piece::NodeIn(NodeKind::Organization)],
+        lines: NODE_LINES,
+    },
+    TablePath {
+        pieces: &[V3, FOLDERS, Piece::NodeIn(NodeKind::Folder)],
+        lines: NODE_LINES,
+    },
+    TablePath {
+        pieces: &[V3, PROJECTS, Piece::NodeIn(NodeKind::Project)],
+        lines: NODE_LINES,
+    },
+    TablePath {
+        pieces: &[V3, FOLDERS],
+        lines: &[
+            PathLine {
+                line: Line::ListFolders,
+                method: "GET",
+                verb: None,
+            },
+            PathLine {
+                line: Line::CreateFolder,
+                method: "POST",
+                verb: None,
+            },
+        ],
+    },
+    TablePath {
+        pieces: &[V3, PROJECTS],
+        lines: &[
+            PathLine {
+                line: Line::ListProjects,
+                method: "GET",
+                verb: None,
+            },
+            PathLine {
+                line: Line::CreateProject,
+                method: "POST",
+                verb: None,
+            },
+        ],
+    },
+];
