@@ -7,6 +7,7 @@ use Rattle.iam_names.specs.Node.{node_text}
 use Rattle.iam_names.specs.Permission.{permission_text}
 use Rattle.iam_names.specs.declared.caller.Caller.{Caller}
 use Rattle.iam_names.specs.declared.node.NodeId.{NodeId}
+use Rattle.iam_names.specs.declared.node.NodeKind.TheVariants as kind
 use Rattle.iam_names.specs.declared.node.NodeName.{NodeName}
 use Rattle.iam_types.specs.declared.answer.Answer.{Answer}
 use Rattle.iam_types.specs.declared.answer.Answer.TheVariants.{Refused, Permissions, Policy as APolicy, Resource as AResource}
@@ -22,18 +23,15 @@ use Rattle.iam_types.specs.declared.tables.Tables.{Tables}
 use Rattle.iam_model.specs.Limits.{beyond}
 use Rattle.iam_model.specs.Nodes.{resolve}
 use Rattle.iam_model.specs.Policies.{bindings_at, etag_of}
-use Rattle.iam_model.specs.Refusals.{first_of, refused_if}
+use Rattle.iam_model.specs.Refusals.{refused_if}
 use Rattle.iam_model.specs.Shared.{is_version}
-use Rattle.iam_law.specs.Asked.{forbidden, permission_at}
-use Rattle.iam_answer.specs.Asking.{query_of, allowed_of, first_unknown}
+use Rattle.iam_law.specs.Asked.{permission_at}
+use Rattle.iam_answer.specs.Asking.{allowed_of, first_unknown, may_not, unless}
+use Rattle.iam_answer.specs.NodeAnswers.{creation_shown, folders_answer, node_answer, projects_answer}
 
 -- the answer at the node of the name, else that there is none
 abbrev pub at_node : Tables → NodeName → (NodeId → Answer) → Answer
 at_node tables name answer = option_map_or answer (resolve tables name) (Refused (NotFound (node_text name)))
-
--- the first of these refusals, else the answer
-abbrev pub unless : List (Option Refusal) → Answer → Answer
-unless refusals answer = option_map_or (λ refusal. Refused refusal) (first_of refusals) answer
 
 -- ---- a test of permissions
 
@@ -48,7 +46,7 @@ test_answer tables node permissions caller moment =
 
 -- the caller may not read the policy there
 abbrev pub may_not_get : Tables → NodeId → Caller → Moment → Option Refusal
-may_not_get tables node caller moment = forbidden tables (query_of node caller moment (permission_at node.kind (codes "getIamPolicy")))
+may_not_get tables node caller moment = may_not tables node caller moment (permission_at node.kind (codes "getIamPolicy"))
 
 -- the policy as it is shown: no conditions can be stored yet, so its version is 1 whichever was asked for
 abbrev pub policy_shown : Tables → NodeId → Answer
@@ -69,9 +67,9 @@ nothing_shown = AResource Nothing
 unfoldable pub answer_of : Tables → Ask → Caller → Moment → Answer
 answer_of tables (Test name permissions) caller moment = at_node tables name (λ node. test_answer tables node permissions caller moment)
 answer_of tables (Policy name version) caller moment = at_node tables name (λ node. policy_answer tables node version caller moment)
-answer_of tables (Node node) caller moment = nothing_shown
-answer_of tables (Folders parent) caller moment = nothing_shown
-answer_of tables (Projects parent) caller moment = nothing_shown
+answer_of tables (Node name) caller moment = at_node tables name (λ node. node_answer tables node caller moment)
+answer_of tables (Folders name) caller moment = at_node tables name (λ parent. folders_answer tables parent caller moment)
+answer_of tables (Projects name) caller moment = at_node tables name (λ parent. projects_answer tables parent caller moment)
 answer_of tables (TagKey number) caller moment = nothing_shown
 answer_of tables (TagValue number) caller moment = nothing_shown
 answer_of tables (Tags node) caller moment = nothing_shown
@@ -93,9 +91,9 @@ policy_written tables name = option_map_or (policy_shown tables) (resolve tables
 -- takes away as it stood before.
 unfoldable pub written_answer : Tables → Tables → Command → Answer
 written_answer before later (SetAllow name version etag bindings) = policy_written later name
-written_answer before later (CreateFolder parent display) = nothing_shown
+written_answer before later (CreateFolder parent display) = creation_shown kind.Folder later
 written_answer before later (RenameFolder node display) = nothing_shown
-written_answer before later (CreateProject project parent display) = nothing_shown
+written_answer before later (CreateProject project parent display) = creation_shown kind.Project later
 written_answer before later (Move node to) = nothing_shown
 written_answer before later (DeleteNode node) = nothing_shown
 written_answer before later (UndeleteNode node) = nothing_shown

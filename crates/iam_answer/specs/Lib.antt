@@ -1,3 +1,4 @@
-pub mod Asking
 pub mod Answer
+pub mod Asking
+pub mod NodeAnswers
 pub mod Replies

@@ -3,8 +3,10 @@ ghost use Rattle.std.specs.Prelude.{◌≡◌, IfOk};
 ghost use Rattle.iam_names.specs.Node.{node_text};
 ghost use Rattle.iam_types.specs.declared.answer.Answer.TheVariants.{Refused};
 ghost use Rattle.iam_types.specs.declared.refusal.Refusal.TheVariants.{NotFound};
-ghost use Rattle.iam_answer.specs.Answer.{answer_of};
+ghost use Rattle.iam_answer.specs.Answer.{answer_of, at_node};
+ghost use Rattle.iam_answer.specs.NodeAnswers.{folders_answer, node_answer, projects_answer};
 
+use crate::nodes::{folders, node, projects};
 use crate::policies::policy;
 use crate::testing::test;
 use iam_judge::Index;
@@ -18,6 +20,51 @@ fn not_found(alloc: Global, node: &NodeName) -> Result<Answer, OutOfMemory>
 {
     let name = node.text(alloc)?;
     Ok(Answer::Refused(Refusal::NotFound { name }))
+}
+
+fn node_named(
+    alloc: Global,
+    index: &Index,
+    name: &NodeName,
+    caller: &Caller,
+    moment: Moment,
+) -> Result<Answer, OutOfMemory>
+    ensures { IfOk result (λ answer. answer ≡ at_node index.now name.now (λ id. node_answer index.now id caller.now moment)) }
+{
+    match resolve(index.tables(), name) {
+        Some(id) => node(alloc, index, id, caller, moment),
+        None => not_found(alloc, name),
+    }
+}
+
+fn folders_under(
+    alloc: Global,
+    index: &Index,
+    name: &NodeName,
+    caller: &Caller,
+    moment: Moment,
+) -> Result<Answer, OutOfMemory>
+    ensures { IfOk result (λ answer. answer ≡ at_node index.now name.now (λ parent. folders_answer index.now parent caller.now moment)) }
+{
+    match resolve(index.tables(), name) {
+        Some(parent) => folders(alloc, index, parent, caller, moment),
+        None => not_found(alloc, name),
+    }
+}
+
+fn projects_under(
+    alloc: Global,
+    index: &Index,
+    name: &NodeName,
+    caller: &Caller,
+    moment: Moment,
+) -> Result<Answer, OutOfMemory>
+    ensures { IfOk result (λ answer. answer ≡ at_node index.now name.now (λ parent. projects_answer index.now parent caller.now moment)) }
+{
+    match resolve(index.tables(), name) {
+        Some(parent) => projects(alloc, index, parent, caller, moment),
+        None => not_found(alloc, name),
+    }
 }
 
 /// What a read is answered in the state that the index holds, at this moment.
@@ -40,10 +87,10 @@ pub fn answer(
             Some(id) => policy(alloc, index, id, *version, caller, moment),
             None => not_found(alloc, node),
         },
-        Ask::Node { .. }
-        | Ask::Folders { .. }
-        | Ask::Projects { .. }
-        | Ask::TagKey { .. }
+        Ask::Node { node } => node_named(alloc, index, node, caller, moment),
+        Ask::Folders { parent } => folders_under(alloc, index, parent, caller, moment),
+        Ask::Projects { parent } => projects_under(alloc, index, parent, caller, moment),
+        Ask::TagKey { .. }
         | Ask::TagValue { .. }
         | Ask::Tags { .. }
         | Ask::Group { .. }

@@ -3,9 +3,10 @@ ghost use Rattle.std.specs.Prelude.{◌≡◌, IfOk};
 ghost use Rattle.iam_types.specs.declared.tables.Tables.{Tables};
 ghost use Rattle.iam_answer.specs.Answer.{policy_written, written_answer};
 
+use crate::nodes::creation_shown;
 use crate::policies::policy_shown;
 use iam_judge::Index;
-use iam_names::NodeName;
+use iam_names::{NodeKind, NodeName};
 use iam_tables::{Answer, Command, Resource, resolve};
 use iam_text::OutOfMemory;
 use std::alloc::Global;
@@ -27,9 +28,9 @@ pub fn written(alloc: Global, index: &Index, command: &Command) -> Result<Answer
 {
     match command {
         Command::SetAllow { node, .. } => policy_written(alloc, index, node),
-        Command::CreateFolder { .. }
-        | Command::RenameFolder { .. }
-        | Command::CreateProject { .. }
+        Command::CreateFolder { .. } => creation_shown(NodeKind::Folder, index.tables()),
+        Command::CreateProject { .. } => creation_shown(NodeKind::Project, index.tables()),
+        Command::RenameFolder { .. }
         | Command::Move { .. }
         | Command::DeleteNode { .. }
         | Command::UndeleteNode { .. }

@@ -8,6 +8,7 @@
 mod answers;
 mod changes;
 mod laws;
+mod nodes;
 mod policies;
 mod queries;
 mod replies;

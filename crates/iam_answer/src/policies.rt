@@ -4,12 +4,10 @@ ghost use Rattle.iam_model.specs.Nodes.{exists};
 ghost use Rattle.iam_law.specs.Asked.{permission_at};
 ghost use Rattle.iam_answer.specs.Answer.{may_not_get, policy_answer, policy_shown};
 
-use crate::queries::decision_of;
-use iam_judge::{Index, unless_allowed};
+use crate::queries::may_not;
+use iam_judge::Index;
 use iam_names::{Caller, NodeId, NodeKind};
-use iam_tables::{
-    Answer, Binding, Refusal, Tables, copy_binding, is_version, permission_named, policy_of,
-};
+use iam_tables::{Answer, Binding, Refusal, Tables, copy_binding, is_version, policy_of};
 use iam_text::{List, Moment, OutOfMemory};
 use std::alloc::Global;
 
@@ -34,9 +32,7 @@ fn may_not_get(
     requires { IsTrue (exists index.now node) }
     ensures { IfOk result (λ refusal. refusal ≡ may_not_get index.now node caller.now moment) }
 {
-    let permission = permission_named(alloc, get_text(node.kind))?;
-    let decision = decision_of(alloc, index, node, caller, moment, &permission)?;
-    Ok(unless_allowed(permission, decision))
+    may_not(alloc, index, node, caller, moment, get_text(node.kind))
 }
 
 // Copies of the bindings.

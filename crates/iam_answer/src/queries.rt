@@ -5,9 +5,9 @@ ghost use Rattle.iam_model.specs.Nodes.{exists};
 ghost use Rattle.iam_law.specs.Decide.{decide};
 ghost use Rattle.iam_answer.specs.Asking as spec;
 
-use iam_judge::{Index, resource_facts_of};
+use iam_judge::{Index, resource_facts_of, unless_allowed};
 use iam_names::{Caller, NodeId, PermissionName, copy_caller, copy_permission};
-use iam_tables::{Decision, Query};
+use iam_tables::{Decision, Query, Refusal, permission_named};
 use iam_text::{List, Moment, OutOfMemory};
 use std::alloc::Global;
 
@@ -56,4 +56,22 @@ pub fn allows(decision: &Decision) -> bool
             false
         }
     }
+}
+
+/// The refusal of a caller who hasn't the permission on the node, at this moment.
+pub fn may_not(
+    alloc: Global,
+    index: &Index,
+    node: NodeId,
+    caller: &Caller,
+    moment: Moment,
+    permission: &str,
+) -> Result<Option<Refusal>, OutOfMemory>
+    requires node { IsTrue (exists index.now node) }
+    requires permission { IsTrue (is_permission permission.now) }
+    ensures { IfOk result (λ refusal. refusal ≡ spec.may_not index.now node caller.now moment permission.now) }
+{
+    let permission = permission_named(alloc, permission)?;
+    let decision = decision_of(alloc, index, node, caller, moment, &permission)?;
+    Ok(unless_allowed(permission, decision))
 }
