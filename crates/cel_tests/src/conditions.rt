@@ -1,4 +1,4 @@
-use cel_syntax::{ReadStop, read};
+use cel_syntax::{Expr, ReadStop, read};
 use cel_types::TypeKind::{
     BadTemplate, BadZone, NotBool, NotHere, NotLiteral, UnknownName, WrongKind,
 };
@@ -8,7 +8,7 @@ use std::alloc::Global;
 use std::test::Fail;
 
 /// The offset and the kind of a fault.
-type Fault = Option<(u32, TypeKind)>;
+pub type Fault = Option<(u32, TypeKind)>;
 
 /// Texts with their fault as conditions of an allow policy, of a deny rule and of a boundary binding.
 static CONDITIONS: [(&str, Fault, Fault, Fault); 85] = [
@@ -464,15 +464,19 @@ static CONDITIONS: [(&str, Fault, Fault, Fault); 85] = [
     ),
 ];
 
-fn fault(alloc: Global, place: Place, text: &str) -> Result<Fault, ReadStop> {
-    let tree = read(alloc, text)?;
+/// The fault of a tree as a condition. A call of its own, so that what `check` promises is not carried along by the rest.
+pub fn fault_of(tree: Expr, place: Place) -> Fault {
     match check(tree, place) {
         Ok(typed) => {
             let_go(typed);
-            Ok(None)
+            None
         }
-        Err(fault) => Ok(Some((fault.offset, fault.kind))),
+        Err(fault) => Some((fault.offset, fault.kind)),
     }
+}
+
+fn fault(alloc: Global, place: Place, text: &str) -> Result<Fault, ReadStop> {
+    Ok(fault_of(read(alloc, text)?, place))
 }
 
 #[test]

@@ -2,59 +2,26 @@
 use crate::running::{Kept, ORG_ROW, POLICY_ROW, QUIET, Run, Told};
 use iam_server::{LoadFault, Status};
 
-const ADA_GETS: [&str; 7] = [
-    "ask",
-    "--principal",
-    "ada@example.com",
-    "--resource",
-    "//cloudresourcemanager.googleapis.com/organizations/1000",
-    "--permission",
-    "resourcemanager.organizations.get",
-];
+const ADA_GETS: &str =
+    "ask --principal ada@example.com --resource //cloudresourcemanager.googleapis.com/organizations/1000 --permission resourcemanager.organizations.get";
 
-const BOB_GETS: [&str; 7] = [
-    "ask",
-    "--permission",
-    "resourcemanager.organizations.get",
-    "--principal",
-    "user:bob@example.com",
-    "--resource",
-    "//cloudresourcemanager.googleapis.com/organizations/1000",
-];
+const BOB_GETS: &str =
+    "ask --permission resourcemanager.organizations.get --principal user:bob@example.com --resource //cloudresourcemanager.googleapis.com/organizations/1000";
 
-const ADA_FLIES: [&str; 7] = [
-    "ask",
-    "--principal",
-    "user:ada@example.com",
-    "--resource",
-    "//cloudresourcemanager.googleapis.com/organizations/1000",
-    "--permission",
-    "storage.objects.fly",
-];
+const ADA_FLIES: &str =
+    "ask --principal user:ada@example.com --resource //cloudresourcemanager.googleapis.com/organizations/1000 --permission storage.objects.fly";
 
-const ADA_FLIES_ELSEWHERE: [&str; 7] = [
-    "ask",
-    "--principal",
-    "user:ada@example.com",
-    "--resource",
-    "//cloudresourcemanager.googleapis.com/organizations/7",
-    "--permission",
-    "storage.objects.fly",
-];
+const ADA_FLIES_ELSEWHERE: &str =
+    "ask --principal user:ada@example.com --resource //cloudresourcemanager.googleapis.com/organizations/7 --permission storage.objects.fly";
 
-const NOBODY_GETS: [&str; 5] = [
-    "ask",
-    "--resource",
-    "//cloudresourcemanager.googleapis.com/organizations/1000",
-    "--permission",
-    "resourcemanager.organizations.get",
-];
+const NOBODY_GETS: &str =
+    "ask --resource //cloudresourcemanager.googleapis.com/organizations/1000 --permission resourcemanager.organizations.get";
 
 const ROWS: [Kept; 2] = [POLICY_ROW, ORG_ROW];
 
 /// Ada gets the organisation, which her role allows.
 const ALLOWED: Run = Run {
-    words: &ADA_GETS,
+    words: ADA_GETS,
     rows: &ROWS,
     failing_read: 1,
     line: "ALLOWED organizations/1000 0\n",
@@ -72,18 +39,18 @@ const SILENT: Run = Run {
 static RUNS: [Run; 10] = [
     ALLOWED,
     Run {
-        words: &BOB_GETS,
+        words: BOB_GETS,
         line: "NOT_GRANTED\n",
         ..ALLOWED
     },
     Run {
-        words: &ADA_FLIES,
+        words: ADA_FLIES,
         line: "PERMISSION_UNKNOWN\n",
         ..ALLOWED
     },
     // What isn't there is told first.
     Run {
-        words: &ADA_FLIES_ELSEWHERE,
+        words: ADA_FLIES_ELSEWHERE,
         line: "NOT_FOUND\n",
         ..ALLOWED
     },
@@ -118,7 +85,7 @@ static RUNS: [Run; 10] = [
     },
     // Nobody is named.
     Run {
-        words: &NOBODY_GETS,
+        words: NOBODY_GETS,
         status: Status::Words,
         ..SILENT
     },

@@ -1,6 +1,6 @@
 // Every run of the tables.
 use crate::running::{Run, first_wrong};
-use crate::{access, faults, keepers, limits, messages, settings};
+use crate::{access, faults, hierarchy, keepers, limits, messages, nodes, settings};
 use std::test::Fail;
 
 // What the runs of a table show, and the runs.
@@ -20,6 +20,13 @@ fn tables() -> [(&'static str, &'static [Run]); 8] {
 #[test]
 fn many_messages_are_answered(rt: HostRuntime) -> Result<(), Fail> {
     assert_eq!(rt; messages::first_wrong_of_many(rt.alloc())?, None);
+    Ok(())
+}
+
+#[test]
+fn nodes_are_made_and_read(rt: HostRuntime) -> Result<(), Fail> {
+    assert_eq!(rt; nodes::first_wrong_of_nodes(rt.alloc())?, None);
+    assert_eq!(rt; hierarchy::first_wrong_of_hierarchies(rt.alloc())?, None);
     Ok(())
 }
 

@@ -28,7 +28,7 @@ pub const ADA_FROM_5: &str = "x-iam-caller: user:ada@example.com\r\nx-iam-min-re
 pub const ADA_FROM_NOTHING: &str =
     "x-iam-caller: user:ada@example.com\r\nx-iam-min-revision: 0x2\r\n";
 
-/// A text, and how many times it stands.
+/// A text, and how many times it stands. In it `#` is the place, from 0, in four digits.
 pub type Times = (&'static str, usize);
 
 /// What a request asks: method and target, caller, body.
@@ -63,10 +63,20 @@ pub const BOTH: &str =
 pub const BOTH_SET: &str =
     "{\"bindings\":[{\"members\":[\"user:ada@example.com\"],\"role\":\"roles/resourcemanager.organizationAdmin\"},{\"members\":[\"user:bob@example.com\"],\"role\":\"roles/viewer\"}],\"etag\":\"AAAAAAAAAAI=\",\"version\":1}";
 
+/// The text with the place in it.
+pub fn push_numbered(text: &mut String, one: &str, place: usize) -> Result<(), AllocError> {
+    let Some((before, behind)) = one.split_once('#') else {
+        return text.push_str(one);
+    };
+    text.push_str(before)?;
+    write!(text, "{place:04}")?;
+    text.push_str(behind)
+}
+
 pub fn push_times(text: &mut String, times: Times) -> Result<(), AllocError> {
     let (one, count) = times;
-    for _ in 0..count {
-        text.push_str(one)?;
+    for place in 0..count {
+        push_numbered(text, one, place)?;
     }
     Ok(())
 }

@@ -12,17 +12,8 @@ const KEEPER_FAULT: &str =
     "{\"error\":{\"code\":503,\"details\":{},\"message\":\"KEEPER_FAULT\",\"status\":\"UNAVAILABLE\"}}";
 
 // The words that open another organisation.
-const OTHER_WORDS: [&str; 9] = [
-    "apply",
-    "--org",
-    "7",
-    "--domain",
-    "example.com",
-    "--customer",
-    "C01",
-    "--admin",
-    "user:bob@example.com",
-];
+const OTHER_WORDS: &str =
+    "apply --org 7 --domain example.com --customer C01 --admin user:bob@example.com";
 
 /// Rows are loaded and kept.
 static RUNS: [Run; 10] = [
@@ -30,7 +21,7 @@ static RUNS: [Run; 10] = [
     QUIET,
     // They are loaded without an opening.
     Run {
-        words: &["apply"],
+        words: "apply",
         rows: &[POLICY_ROW, ORG_ROW],
         asked: &[FIRST_ASKED],
         answered: &[FIRST_ANSWERED],
@@ -38,7 +29,7 @@ static RUNS: [Run; 10] = [
     },
     // Where rows are there, an opening is passed over.
     Run {
-        words: &OTHER_WORDS,
+        words: OTHER_WORDS,
         rows: &[SET_ROW, CHANGED_ORG_ROW],
         asked: &[(
             TEST,
@@ -55,7 +46,7 @@ static RUNS: [Run; 10] = [
     },
     // The second row is bad.
     Run {
-        words: &OTHER_WORDS,
+        words: OTHER_WORDS,
         rows: &[POLICY_ROW, ("org", HERE, "{}")],
         asked: &[(READ, ADA, "")],
         status: Status::Rows(LoadFault::BadRow { index: 1 }),
@@ -64,7 +55,7 @@ static RUNS: [Run; 10] = [
     },
     // There is no organisation.
     Run {
-        words: &["apply"],
+        words: "apply",
         rows: &[POLICY_ROW],
         asked: &[(READ, ADA, "")],
         status: Status::Rows(LoadFault::Inconsistent { rule: 1 }),
@@ -73,7 +64,7 @@ static RUNS: [Run; 10] = [
     },
     // The policy was set by a change that wasn't made.
     Run {
-        words: &["apply"],
+        words: "apply",
         rows: &[SET_ROW, ORG_ROW],
         status: Status::Rows(LoadFault::Inconsistent { rule: 14 }),
         kept: &[SET_ROW, ORG_ROW],
@@ -81,7 +72,7 @@ static RUNS: [Run; 10] = [
     },
     // There is nothing to load and nothing to open.
     Run {
-        words: &["apply"],
+        words: "apply",
         asked: &[(READ, ADA, "")],
         status: Status::Rows(LoadFault::Empty),
         kept: &[],

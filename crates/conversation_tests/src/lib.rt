@@ -1,4 +1,5 @@
-//! Tests of whole runs over memory, which stand on the run, so that nothing is proved again for its tests.
+//! Tests of what the words of the command line ask for, and of whole runs over memory, which stand on the run, so that nothing is
+//! proved again for its tests.
 //!
 //! A run is a row of a table: what it is over, and what it comes to. One test goes through all tables.
 #![tactic(auto)]
@@ -12,13 +13,19 @@ mod asked;
 #[cfg(test)]
 mod faults;
 #[cfg(test)]
+mod hierarchy;
+#[cfg(test)]
 mod keepers;
 #[cfg(test)]
 mod limits;
 #[cfg(test)]
 mod messages;
 #[cfg(test)]
+mod nodes;
+#[cfg(test)]
 mod pieces;
+#[cfg(test)]
+mod plans;
 #[cfg(test)]
 mod running;
 #[cfg(test)]

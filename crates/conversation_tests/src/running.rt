@@ -1,7 +1,9 @@
 // One run over memory.
 ghost use Rattle.std.specs.Prelude.{◌≡◌, IfOk};
 
-use crate::asked::{Answered, Asked, Times, push_replies, push_requests, push_times, spelled};
+use crate::asked::{
+    Answered, Asked, Times, push_numbered, push_replies, push_requests, push_times, spelled,
+};
 use iam_outer::{
     Keeper, List, MemoryClock, MemoryKeeper, MemorySink, MemorySource, Moment, OutOfMemory, Pair,
     Row, Step, Text, Zones,
@@ -11,17 +13,8 @@ use iam_tables::Catalogue;
 use iam_text::let_go;
 use std::alloc::{AllocError, Global};
 
-pub const WORDS: [&str; 9] = [
-    "apply",
-    "--customer",
-    "C01",
-    "--org",
-    "1000",
-    "--admin",
-    "user:ada@example.com",
-    "--domain",
-    "example.com",
-];
+pub const WORDS: &str =
+    "apply --customer C01 --org 1000 --admin user:ada@example.com --domain example.com";
 
 /// The one moment that the clock gives.
 pub const MOMENT: Moment = Moment(1_767_225_600);
@@ -63,13 +56,13 @@ pub enum Told {
     Steps(&'static [Step]),
 }
 
-/// A run: its words, the keeper's rows, what is asked, the text behind it, and how many bytes 255 stand behind that; the room
-/// of the sink, and which call fails of each object, from 1. And then how it ends, the line that it writes, the replies, and
-/// those to the text behind, so many times, all cut where the room ends; what the messages came to; and the rows that are kept.
-/// In bodies `*` stands for `many`.
+/// A run: its words with a space between each two, the keeper's rows, what is asked, the text behind it, and how many bytes 255
+/// stand behind that; the room of the sink, and which call fails of each object, from 1. And then how it ends, the line that it
+/// writes, the replies, and those to the text behind, so many times, all cut where the room ends; what the messages came to; and
+/// the rows that are kept. In bodies `*` stands for `many`, and a row with `#` in its name stands so many times.
 #[derive(Clone, Copy)]
 pub struct Run {
-    pub words: &'static [&'static str],
+    pub words: &'static str,
     pub rows: &'static [Kept],
     pub many: Times,
     pub asked: &'static [Asked],
@@ -89,7 +82,7 @@ pub struct Run {
 
 /// A run over an empty keeper and an empty input.
 pub const QUIET: Run = Run {
-    words: &WORDS,
+    words: WORDS,
     rows: &[],
     many: ("", 0),
     asked: &[],
@@ -115,10 +108,11 @@ fn list<T: Copy>(alloc: Global, values: &[T]) -> Result<List<T>, OutOfMemory>
     Ok(list)
 }
 
-fn words_of(alloc: Global, texts: &[&str]) -> Result<List<Text>, OutOfMemory> {
+/// The words of a line: two spaces have an empty word between them.
+pub fn words_of(alloc: Global, line: &str) -> Result<List<Text>, OutOfMemory> {
     let mut words = List::new(alloc);
-    for text in texts {
-        words.push(Text::of(alloc, text)?)?;
+    for word in line.split(' ') {
+        words.push(Text::of(alloc, word)?)?;
     }
     Ok(words)
 }
@@ -133,10 +127,41 @@ fn row_of(alloc: Global, kept: &Kept, many: Times) -> Result<Row, OutOfMemory> {
     })
 }
 
+fn numbered(alloc: Global, text: &str, place: usize) -> Result<Text, OutOfMemory> {
+    let mut whole = String::new(alloc);
+    push_numbered(&mut whole, text, place)?;
+    Ok(Text::from(whole))
+}
+
+fn numbered_row(alloc: Global, kept: &Kept, place: usize) -> Result<Row, OutOfMemory> {
+    let (part, name, body) = kept;
+    Ok(Row {
+        part: Text::of(alloc, part)?,
+        name: numbered(alloc, name, place)?,
+        body: numbered(alloc, body, place)?,
+    })
+}
+
+// A row, or as many as `many` says.
+fn push_rows(
+    alloc: Global,
+    rows: &mut List<Row>,
+    kept: &Kept,
+    many: Times,
+) -> Result<(), OutOfMemory> {
+    if kept.1.split_once('#').is_none() {
+        return rows.push(row_of(alloc, kept, many)?);
+    }
+    for place in 0..many.1 {
+        rows.push(numbered_row(alloc, kept, place)?)?;
+    }
+    Ok(())
+}
+
 fn rows_of(alloc: Global, kept: &[Kept], many: Times) -> Result<List<Row>, OutOfMemory> {
     let mut rows = List::new(alloc);
     for row in kept {
-        rows.push(row_of(alloc, row, many)?)?;
+        push_rows(alloc, &mut rows, row, many)?;
     }
     Ok(rows)
 }

@@ -1,5 +1,7 @@
 // What messages ask for, and what is refused of them.
-use iam_json::{Call, Details, ErrorReply, answer_body};
+use crate::things::body_text;
+use crate::{nodes, targets};
+use iam_json::{Call, Details, ErrorReply};
 use iam_names::{NodeName, PermissionName};
 use iam_routes::{Asked, Routes, asked};
 use iam_text::{List, OutOfMemory, Text, let_go};
@@ -11,33 +13,28 @@ use std::test::Fail;
 
 /// The header `x-iam-caller`.
 #[derive(Clone, Copy)]
-enum Header {
+pub enum Header {
     Absent,
     One(&'static str),
     Bad,
 }
 
 /// The method, the target, the caller and the body of a request.
-type Request = (&'static str, &'static str, Header, &'static str);
+pub type Request = (&'static str, &'static str, Header, &'static str);
 
-const ADA: Header = Header::One("user:ada@example.com");
+pub const ADA: Header = Header::One("user:ada@example.com");
 
-const BAD: Header = Header::One("bob");
+pub const TEST: &str = "/v3/organizations/1000:testIamPermissions";
 
-const TEST: &str = "/v3/organizations/1000:testIamPermissions";
+pub const READ: &str = "/v3/organizations/1000:getIamPolicy";
 
-const READ: &str = "/v3/organizations/1000:getIamPolicy";
+pub const SET: &str = "/v3/organizations/1000:setIamPolicy";
 
-const SET: &str = "/v3/organizations/1000:setIamPolicy";
-
-const TWO: &str = "{\"permissions\":[\"a.b.c\",\"d.e.f\"]}";
-
-const TESTED: &str =
-    r#"user:ada@example.com tests organizations/1000 {"permissions":["a.b.c","d.e.f"]}"#;
+pub const TWO: &str = "{\"permissions\":[\"a.b.c\",\"d.e.f\"]}";
 
 /// A request, and what is asked by it: the number of its refusal and the path of a bad member, or its caller, what it wants of
 /// which node, and what it gives as an answer would show it. A setting without an etag overwrites.
-type Case = (Request, &'static str);
+pub type Case = (Request, &'static str);
 
 // The order of refusals.
 static ORDER: [Case; 18] = [
@@ -209,285 +206,6 @@ static BODIES: [Case; 17] = [
     ),
 ];
 
-// Targets: those of a line, and others.
-static TARGETS: [Case; 17] = [
-    (
-        (
-            "POST",
-            "/v3/organizations/1000:testIamPermissions?x=:y/z?",
-            ADA,
-            TWO,
-        ),
-        TESTED,
-    ),
-    (
-        (
-            "POST",
-            "/v3/organizations/%31%30%300:testIamPermissions",
-            ADA,
-            TWO,
-        ),
-        TESTED,
-    ),
-    (
-        ("POST", "/v3/organizations/1000:setIamPolicy", ADA, TWO),
-        "3 policy",
-    ),
-    (("POST", "/v3/organizations/1000", ADA, TWO), "4"),
-    (("POST", "/v3/organizations/1000:", ADA, TWO), "4"),
-    (
-        (
-            "POST",
-            "/v3/organizations/1000:testIamPermissions:",
-            ADA,
-            TWO,
-        ),
-        "4",
-    ),
-    (
-        (
-            "POST",
-            "/v3/organizations/1000:TestIamPermissions",
-            ADA,
-            TWO,
-        ),
-        "4",
-    ),
-    (
-        (
-            "POST",
-            "/v3/organizations/1000:testIamPermission%73",
-            ADA,
-            TWO,
-        ),
-        "4",
-    ),
-    (
-        (
-            "POST",
-            "/v3/organizations/1000%3AtestIamPermissions",
-            ADA,
-            TWO,
-        ),
-        "4",
-    ),
-    (
-        (
-            "POST",
-            "/v3/organizations/1000?:testIamPermissions",
-            ADA,
-            TWO,
-        ),
-        "4",
-    ),
-    (
-        (
-            "POST",
-            "/v3/organizations/1000:testIamPermissions/",
-            ADA,
-            TWO,
-        ),
-        "4",
-    ),
-    (
-        (
-            "POST",
-            "/v3/organizations/1000/:testIamPermissions",
-            ADA,
-            TWO,
-        ),
-        "4",
-    ),
-    (
-        (
-            "POST",
-            "/v3/organizations/1000/2:testIamPermissions",
-            ADA,
-            TWO,
-        ),
-        "4",
-    ),
-    (
-        (
-            "POST",
-            "/v3/organizations/1000%2F2:testIamPermissions",
-            ADA,
-            TWO,
-        ),
-        "4",
-    ),
-    (
-        (
-            "POST",
-            "/v3/organizations%2F1000:testIamPermissions",
-            ADA,
-            TWO,
-        ),
-        "4",
-    ),
-    (
-        (
-            "POST",
-            "/v3/organiz%61tions/1000:testIamPermissions",
-            ADA,
-            TWO,
-        ),
-        "4",
-    ),
-    (
-        ("POST", "/v3/organizations/:testIamPermissions", ADA, TWO),
-        "4",
-    ),
-];
-
-// More targets.
-static OTHER_TARGETS: [Case; 17] = [
-    (
-        ("POST", "/v3/organizations:testIamPermissions", ADA, TWO),
-        "4",
-    ),
-    (
-        (
-            "POST",
-            "/v3/organizations/01000:testIamPermissions",
-            ADA,
-            TWO,
-        ),
-        "4",
-    ),
-    (
-        (
-            "POST",
-            "/v3/organizations/9000000000000000001:testIamPermissions",
-            ADA,
-            TWO,
-        ),
-        "4",
-    ),
-    (
-        (
-            "POST",
-            "/v3/organizations/1%ff:testIamPermissions",
-            ADA,
-            TWO,
-        ),
-        "4",
-    ),
-    (
-        ("POST", "/v3/organizations/1%:testIamPermissions", ADA, TWO),
-        "4",
-    ),
-    (
-        ("POST", "/v3/folders/1000:testIamPermissions", ADA, TWO),
-        "4",
-    ),
-    (
-        (
-            "POST",
-            "/v3//organizations/1000:testIamPermissions",
-            ADA,
-            TWO,
-        ),
-        "4",
-    ),
-    (
-        ("POST", "v3/organizations/1000:testIamPermissions", ADA, TWO),
-        "4",
-    ),
-    (
-        (
-            "POST",
-            "http://a/v3/organizations/1000:testIamPermissions",
-            ADA,
-            TWO,
-        ),
-        "4",
-    ),
-    (
-        (
-            "POST",
-            "/v3/organizations/1000:x:testIamPermissions",
-            ADA,
-            TWO,
-        ),
-        "4",
-    ),
-    (
-        (
-            "POST",
-            "/v3/organizations/1000::testIamPermissions",
-            ADA,
-            TWO,
-        ),
-        "4",
-    ),
-    (
-        (
-            "POST",
-            "/v3/organizations/1000:test1IamPermissions",
-            ADA,
-            TWO,
-        ),
-        "4",
-    ),
-    (
-        (
-            "POST",
-            "/v3/organizations/{part}:testIamPermissions",
-            ADA,
-            TWO,
-        ),
-        "4",
-    ),
-    (
-        (
-            "POST",
-            "/v3/organizations/%31%3A:testIamPermissions",
-            ADA,
-            TWO,
-        ),
-        "4",
-    ),
-    (
-        (
-            "POST",
-            "/v3:testIamPermissions/organizations/1000",
-            ADA,
-            TWO,
-        ),
-        "4",
-    ),
-    (("POST", ":testIamPermissions", ADA, TWO), "4"),
-    (("POST", "", ADA, TWO), "4"),
-];
-
-// Methods of a path: their refusal comes before that of the caller. A line of another verb or none isn't one of the path.
-static METHODS: [Case; 12] = [
-    (("GET", TEST, BAD, TWO), "5"),
-    (("DELETE", READ, BAD, TWO), "5"),
-    (("PATCH", SET, BAD, TWO), "5"),
-    (("", SET, BAD, TWO), "5"),
-    (("POST ", SET, BAD, TWO), "5"),
-    (
-        (
-            "GET",
-            "/v3/organizations/%31000:getIamPolicy?parent=x",
-            BAD,
-            TWO,
-        ),
-        "5",
-    ),
-    (("GET", "/v3/organizations/1000", BAD, TWO), "4"),
-    (("GET", "/v3/organizations/1000:", BAD, TWO), "4"),
-    (("GET", "/v3/organizations/1000:move", BAD, TWO), "4"),
-    (("GET", "/v3/organizations/0:getIamPolicy", BAD, TWO), "4"),
-    (
-        ("GET", "/v3/organizations/1000/x:getIamPolicy", BAD, TWO),
-        "4",
-    ),
-    (("POST", SET, BAD, TWO), "8"),
-];
-
 // Behind calls that say nothing of them: what uses the tables is proved without their texts.
 fn order() -> &'static [Case] {
     &ORDER
@@ -495,18 +213,6 @@ fn order() -> &'static [Case] {
 
 fn bodies() -> &'static [Case] {
     &BODIES
-}
-
-fn targets() -> &'static [Case] {
-    &TARGETS
-}
-
-fn other_targets() -> &'static [Case] {
-    &OTHER_TARGETS
-}
-
-fn methods() -> &'static [Case] {
-    &METHODS
 }
 
 fn field_of(alloc: Global, header: Header) -> Result<Field, OutOfMemory> {
@@ -561,16 +267,28 @@ fn refusal_text(alloc: Global, reply: &ErrorReply) -> Result<Text, OutOfMemory> 
     }
 }
 
-// Texts with a space between them.
+// Texts with a space between them; empty ones are left out.
 fn joined(alloc: Global, texts: &[&str]) -> Result<Text, OutOfMemory> {
     let mut all = String::new(alloc);
     for text in texts {
-        if !all.as_str().is_empty() {
+        if !all.as_str().is_empty() && !text.is_empty() {
             all.push_str(" ")?;
         }
         all.push_str(text)?;
     }
     Ok(Text::from(all))
+}
+
+// The caller, what it wants of a node, and what it gives.
+fn told(
+    alloc: Global,
+    caller: &str,
+    want: &str,
+    node: &NodeName,
+    given: &str,
+) -> Result<Text, OutOfMemory> {
+    let node = node.text(alloc)?;
+    joined(alloc, &[caller, want, node.as_str(), given])
 }
 
 // The caller, what it wants of a node, and what it gives, as an answer shows it.
@@ -581,16 +299,8 @@ fn shown(
     node: &NodeName,
     given: Answer,
 ) -> Result<Text, OutOfMemory> {
-    // The answer is let go before anything else can be refused.
     let body = body_text(alloc, given)?;
-    let node = node.text(alloc)?;
-    joined(alloc, &[caller, want, node.as_str(), body.as_str()])
-}
-
-fn body_text(alloc: Global, answer: Answer) -> Result<Text, OutOfMemory> {
-    let body = answer_body(alloc, &answer);
-    let_go(answer);
-    body
+    told(alloc, caller, want, node, body.as_str())
 }
 
 fn policy(bindings: List<Binding>, etag: Option<u64>, version: u64) -> Answer {
@@ -615,6 +325,14 @@ enum Want<'a> {
         etag: Option<u64>,
         bindings: &'a List<Binding>,
     },
+    Itself,
+    Folders,
+    Projects,
+    NewFolder(&'a Text),
+    NewProject {
+        project: &'a Text,
+        display: &'a Text,
+    },
 }
 
 // A function of its own, so that the kinds of calls are gone through once.
@@ -622,6 +340,19 @@ fn want_of(call: &Call) -> Option<(&NodeName, Want<'_>)> {
     match call {
         Call::Read(Ask::Test { node, permissions }) => Some((node, Want::Test(permissions))),
         Call::Read(Ask::Policy { node, version }) => Some((node, Want::Policy(*version))),
+        Call::Read(Ask::Node { node }) => Some((node, Want::Itself)),
+        Call::Read(Ask::Folders { parent }) => Some((parent, Want::Folders)),
+        Call::Read(Ask::Projects { parent }) => Some((parent, Want::Projects)),
+        Call::Write(Command::CreateFolder { parent, display }) => {
+            Some((parent, Want::NewFolder(display)))
+        }
+        Call::Write(
+            Command::CreateProject {
+                project,
+                parent,
+                display,
+            },
+        ) => Some((parent, Want::NewProject { project, display })),
         Call::Write(
             Command::SetAllow {
                 node,
@@ -663,6 +394,16 @@ fn want_text(
         } => {
             let given = policy(bindings.clone()?, etag, version);
             shown(alloc, caller, setting(etag), node, given)
+        }
+        Want::Itself => told(alloc, caller, "looks at", node, ""),
+        Want::Folders => told(alloc, caller, "lists the folders of", node, ""),
+        Want::Projects => told(alloc, caller, "lists the projects of", node, ""),
+        Want::NewFolder(display) => {
+            told(alloc, caller, "makes a folder in", node, display.as_str())
+        }
+        Want::NewProject { project, display } => {
+            let given = joined(alloc, &[project.as_str(), display.as_str()])?;
+            told(alloc, caller, "makes a project in", node, given.as_str())
         }
     }
 }
@@ -742,9 +483,13 @@ fn what_is_asked(rt: HostRuntime) -> Result<(), Fail> {
     let routes = Routes::new(alloc)?;
     assert_all(&rt, alloc, &routes, order())?;
     assert_all(&rt, alloc, &routes, bodies())?;
-    assert_all(&rt, alloc, &routes, targets())?;
-    assert_all(&rt, alloc, &routes, other_targets())?;
-    assert_all(&rt, alloc, &routes, methods())?;
+    assert_all(&rt, alloc, &routes, targets::some())?;
+    assert_all(&rt, alloc, &routes, targets::others())?;
+    assert_all(&rt, alloc, &routes, targets::methods())?;
+    assert_all(&rt, alloc, &routes, nodes::lines())?;
+    assert_all(&rt, alloc, &routes, nodes::names())?;
+    assert_all(&rt, alloc, &routes, nodes::queries())?;
+    assert_all(&rt, alloc, &routes, nodes::bodies())?;
     Ok(())
 }
 

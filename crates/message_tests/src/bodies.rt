@@ -1,5 +1,6 @@
 // The code and the body of each refusal, and the names of limits and faults.
-use iam_json::{Details, ErrorReply, answer_body, code_of, error_body, refusal_code};
+use crate::things::body_text;
+use iam_json::{Details, ErrorReply, code_of, error_body, refusal_code};
 use iam_names::{PermissionName, RoleName};
 use iam_text::{OutOfMemory, Text, let_go};
 use iam_types::{Answer, Fault, LimitName, Refusal};
@@ -179,17 +180,10 @@ fn given(alloc: Global, place: usize) -> Result<Refusal, OutOfMemory> {
     }
 }
 
-// What an answer shows, behind a refusal's code.
-fn answered(alloc: Global, answer: Answer) -> Result<Text, OutOfMemory> {
-    let body = answer_body(alloc, &answer);
-    let_go(answer);
-    body
-}
-
-// A refusal as an answer.
+// A refusal as an answer, behind its code.
 fn refused_so(alloc: Global, refusal: Refusal) -> Result<Text, OutOfMemory> {
     let code = refusal_code(&refusal);
-    let body = answered(alloc, Answer::Refused(refusal))?;
+    let body = body_text(alloc, Answer::Refused(refusal))?;
     Ok(Text::from(format!(in alloc; "{} {}", code, body.as_str())?))
 }
 

@@ -1,4 +1,5 @@
 // Messages of a stream, however it is cut, and the bytes of a reply.
+use crate::texts::{push_times, times};
 use iam_text::{List, Moment, OutOfMemory, Text, let_go};
 use iam_wire::{Field, FrameFault, Message, Next, Reply, Wire, reply_bytes};
 use std::alloc::{AllocError, Global};
@@ -283,12 +284,8 @@ fn a_stream_is_read_however_it_is_cut(rt: HostRuntime) -> Result<(), Fail> {
 // A head of so many fields, `host` among them and one of so many bytes, and this end.
 fn large(alloc: Global, fields: usize, long: usize, end: &str) -> Result<String, AllocError> {
     let mut text = String::from_str(alloc, "GET / HTTP/1.1\nhost:a\nb:")?;
-    for _ in 0..long {
-        text.push_str("b")?;
-    }
-    for _ in 2..fields {
-        text.push_str("\nc:")?;
-    }
+    push_times(&mut text, "b", long)?;
+    push_times(&mut text, "\nc:", fields.saturating_sub(2))?;
     text.push_str(end)?;
     Ok(text)
 }
@@ -330,14 +327,6 @@ fn first_large_other(
 fn a_head_is_as_large_as_it_may_be(rt: HostRuntime) -> Result<(), Fail> {
     assert_eq!(rt; first_large_other(rt.alloc(), large_heads())?, None);
     Ok(())
-}
-
-fn times(alloc: Global, text: &str, count: usize) -> Result<String, AllocError> {
-    let mut all = String::new(alloc);
-    for _ in 0..count {
-        all.push_str(text)?;
-    }
-    Ok(all)
 }
 
 // Whether so many messages are read, in pieces of a size that is none of theirs.

@@ -3,17 +3,20 @@ use iam_outer::{Keeper, List, MemoryKeeper, Row, RowWrite, Text};
 use iam_sqlite::SqliteKeeper;
 use iam_text::{OutOfMemory, let_go};
 use sqlite::{Connection, Error, ErrorCode, MemStore};
-use std::alloc::{AllocError, Global};
+use std::alloc::Global;
 use std::test::Fail;
 
 /// A write: the part and the name of a row, and its body, or none where it is cut.
 type Write = (&'static str, &'static str, Option<&'static str>);
 
-/// The writes of a commit, whether it is made, and the rows behind it, a line each.
-type Commit = (&'static [Write], bool, &'static str);
+/// A row: its part, its name and its body.
+type Kept = (&'static str, &'static str, &'static str);
+
+/// The writes of a commit, whether it is made, and the rows behind it.
+type Commit = (&'static [Write], bool, &'static [Kept]);
 
 static MADE: [Commit; 4] = [
-    (&[], true, ""),
+    (&[], true, &[]),
     // Rows come by part and then by name, in bytes.
     (
         &[
@@ -23,7 +26,12 @@ static MADE: [Commit; 4] = [
             ("allow", "Z", Some("4")),
         ],
         true,
-        "allow Z 4\nallow a 3\nallow \u{e9} 2\norg b 1\n",
+        &[
+            ("allow", "Z", "4"),
+            ("allow", "a", "3"),
+            ("allow", "\u{e9}", "2"),
+            ("org", "b", "1"),
+        ],
     ),
     // A row is put in place of another, and two are cut, of which one isn't there.
     (
@@ -33,7 +41,11 @@ static MADE: [Commit; 4] = [
             ("allow", "b", None),
         ],
         true,
-        "allow Z 4\nallow \u{e9} 2\norg b 5\n",
+        &[
+            ("allow", "Z", "4"),
+            ("allow", "\u{e9}", "2"),
+            ("org", "b", "5"),
+        ],
     ),
     // The writes are made in turn.
     (
@@ -44,7 +56,7 @@ static MADE: [Commit; 4] = [
             ("allow", "Z", None),
         ],
         true,
-        "allow \u{e9} 2\norg b 6\n",
+        &[("allow", "\u{e9}", "2"), ("org", "b", "6")],
     ),
 ];
 
@@ -53,7 +65,7 @@ static REFUSED: [Commit; 3] = [
     (
         &[("org", "b", Some("6")), ("allow", "a", Some("2"))],
         true,
-        "allow a 2\norg b 6\n",
+        &[("allow", "a", "2"), ("org", "b", "6")],
     ),
     (
         &[
@@ -62,9 +74,13 @@ static REFUSED: [Commit; 3] = [
             ("org", "b", Some("bad")),
         ],
         false,
-        "allow a 2\norg b 6\n",
+        &[("allow", "a", "2"), ("org", "b", "6")],
     ),
-    (&[("org", "b", Some("8"))], true, "allow a 2\norg b 8\n"),
+    (
+        &[("org", "b", Some("8"))],
+        true,
+        &[("allow", "a", "2"), ("org", "b", "8")],
+    ),
 ];
 
 // The tables behind calls that say nothing of them: what uses them is proved without their texts.
@@ -103,32 +119,26 @@ fn writes_of(alloc: Global, writes: &[Write]) -> Result<List<RowWrite>, OutOfMem
     Ok(all)
 }
 
-fn push_row(text: &mut String, row: &Row) -> Result<(), AllocError> {
-    text.push_str(row.part.as_str())?;
-    text.push_str(" ")?;
-    text.push_str(row.name.as_str())?;
-    text.push_str(" ")?;
-    text.push_str(row.body.as_str())?;
-    text.push_str("\n")
-}
-
-fn text_of(alloc: Global, rows: &[Row]) -> Result<String, AllocError> {
-    let mut text = String::new(alloc);
-    for row in rows {
-        push_row(&mut text, row)?;
+fn rows_of(alloc: Global, kept: &[Kept]) -> Result<List<Row>, OutOfMemory> {
+    let mut rows = List::new(alloc);
+    for (part, name, body) in kept {
+        rows.push(row_of(alloc, part, name, body)?)?;
     }
-    Ok(text)
+    Ok(rows)
 }
 
-fn shown<P: Keeper>(alloc: Global, keeper: &mut P) -> Result<String, AllocError> {
+fn has_rows<P: Keeper>(keeper: &mut P, wanted: &[Row]) -> bool {
     match keeper.load() {
-        Ok(rows) => text_of(alloc, rows.as_slice()),
-        Err(_) => String::from_str(alloc, "no rows"),
+        Ok(rows) => rows.as_slice() == wanted,
+        Err(_) => false,
     }
 }
 
-fn is_made<P: Keeper>(keeper: &mut P, writes: &[RowWrite]) -> bool {
-    keeper.commit(writes).is_ok()
+// The writes are let go before anything can be refused.
+fn is_made<P: Keeper>(keeper: &mut P, writes: List<RowWrite>) -> bool {
+    let made = keeper.commit(writes.as_slice()).is_ok();
+    let_go(writes);
+    made
 }
 
 fn comes_true<P: Keeper>(
@@ -137,9 +147,9 @@ fn comes_true<P: Keeper>(
     commit: &Commit,
 ) -> Result<bool, OutOfMemory> {
     let (writes, made, rows) = commit;
-    let writes = writes_of(alloc, writes)?;
-    let was_made = is_made(keeper, writes.as_slice());
-    Ok(was_made == *made && shown(alloc, keeper)?.as_str() == *rows)
+    let was_made = is_made(keeper, writes_of(alloc, writes)?);
+    let wanted = rows_of(alloc, rows)?;
+    Ok(was_made == *made && has_rows(keeper, wanted.as_slice()))
 }
 
 // Whether each commit, in turn, comes to what it should.
@@ -162,11 +172,6 @@ fn over_memory(alloc: Global, failing: u64, commits: &[Commit]) -> Result<bool, 
     numbers.push(failing)?;
     let mut keeper = MemoryKeeper::new(alloc, List::new(alloc), numbers);
     keeps(alloc, &mut keeper, commits)
-}
-
-fn memory_keeps(alloc: Global) -> Result<bool, OutOfMemory> {
-    // Each commit is followed by one call that loads.
-    Ok(over_memory(alloc, 0, made())? && over_memory(alloc, 3, refused())?)
 }
 
 // Each call of the database stands in a function of its own that ensures nothing, so that no other proof carries what the
@@ -208,21 +213,13 @@ fn over_database(
     kept
 }
 
-fn database_keeps(alloc: Global) -> Result<bool, OutOfMemory> {
-    Ok(
-        over_database(alloc, opened(alloc), made())?
-            && over_database(alloc, without_bad(alloc), refused())?,
-    )
-}
-
 #[test]
-fn rows_in_memory_are_kept(rt: HostRuntime) -> Result<(), Fail> {
-    assert!(rt; memory_keeps(rt.alloc())?);
-    Ok(())
-}
-
-#[test]
-fn rows_in_a_database_are_kept(rt: HostRuntime) -> Result<(), Fail> {
-    assert!(rt; database_keeps(rt.alloc())?);
+fn rows_in_memory_and_in_a_database_are_kept(rt: HostRuntime) -> Result<(), Fail> {
+    let alloc = rt.alloc();
+    assert!(rt; over_memory(alloc, 0, made())?);
+    // Each commit is followed by one call that loads, so the third call is the second commit.
+    assert!(rt; over_memory(alloc, 3, refused())?);
+    assert!(rt; over_database(alloc, opened(alloc), made())?);
+    assert!(rt; over_database(alloc, without_bad(alloc), refused())?);
     Ok(())
 }

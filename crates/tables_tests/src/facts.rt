@@ -1,12 +1,9 @@
 // The first rule that facts break. They are read of rows, in the order of these.
-ghost use Rattle.std.specs.Prelude.{IfOk, All};
-ghost use Rattle.iam_model.specs.Formed.{IsFact};
-
+use crate::broken::first_broken;
 use crate::given::{NAME, row};
 use iam_outer::Row;
-use iam_rows::{LoadStop, facts_of_rows};
-use iam_tables::{Fact, TablesStop, from_facts};
-use iam_text::{List, OutOfMemory, let_go};
+use iam_rows::LoadStop;
+use iam_text::{List, OutOfMemory};
 use std::alloc::{AllocError, Global};
 use std::fmt::Write;
 use std::test::Fail;
@@ -151,31 +148,9 @@ fn cases() -> &'static [Case] {
     &CASES
 }
 
-// The calls stand in functions of their own, which promise no more than the next one asks for.
-fn facts_in(alloc: Global, rows: &[Row]) -> Result<List<Fact>, LoadStop>
-    ensures { IfOk result (All IsFact) }
-{
-    facts_of_rows(alloc, rows)
-}
-
-// The first rule that the facts break, or 0.
-fn broken_by(alloc: Global, facts: List<Fact>) -> Result<u8, LoadStop>
-    requires { All IsFact facts }
-{
-    match from_facts(alloc, facts) {
-        Ok(tables) => {
-            let_go(tables);
-            Ok(0)
-        }
-        Err(TablesStop::Inconsistent { rule }) => Ok(rule),
-        Err(TablesStop::OutOfMemory) => Err(LoadStop::OutOfMemory),
-    }
-}
-
 fn rule(alloc: Global, case: &Case) -> Result<u8, LoadStop> {
     let rows = rows(alloc, case)?;
-    let facts = facts_in(alloc, rows.as_slice())?;
-    broken_by(alloc, facts)
+    first_broken(alloc, rows.as_slice())
 }
 
 #[test]

@@ -3,6 +3,8 @@
 #![tactic(auto)]
 
 #[cfg(test)]
+mod broken;
+#[cfg(test)]
 mod catalogue;
 #[cfg(test)]
 mod facts;
@@ -10,5 +12,9 @@ mod facts;
 mod given;
 #[cfg(test)]
 mod groups;
+#[cfg(test)]
+mod hierarchy;
+#[cfg(test)]
+mod nodes;
 #[cfg(test)]
 mod rows;

@@ -10,14 +10,19 @@ use iam_text::{List, OutOfMemory, Text, let_go};
 use std::alloc::Global;
 use std::test::Fail;
 
-// Parts and bodies, and what becomes of the row. Those of an opening are kept. Bad are: nothing in the organisation's body,
-// an unknown part, an unknown member, a member that can't be read, a binding without members, a space, another schema, and
-// members in another order.
-static ROWS: [(&str, &str, &str); 10] = [
+// Parts and bodies, and what becomes of the row with the organisation's name. Those of an opening are kept. Bad are: nothing in
+// the organisation's body, a node that is an organisation, an unknown part, an unknown member, a member that can't be read, a
+// binding without members, a space, another schema, and members in another order.
+static ROWS: [(&str, &str, &str); 11] = [
     ("allow", ALLOW, "kept"),
     ("org", ORG, "kept"),
     ("org", "{}", "bad"),
-    ("node", "{}", "bad"),
+    (
+        "node",
+        "{\"active\":true,\"display\":\"Example\",\"parent\":\"organizations/1000\"}",
+        "bad",
+    ),
+    ("nodes", "{}", "bad"),
     (
         "org",
         "{\"changes\":1,\"customer\":\"C01\",\"domain\":\"example.com\",\"label\":1,\"next\":1,\"schema\":1}",
@@ -46,6 +51,121 @@ static ROWS: [(&str, &str, &str); 10] = [
     ),
 ];
 
+// Names and bodies of nodes, and what becomes of the row. Kept are a folder, a project, a deleted one, one below a project, which
+// a rule of the tables refuses, and a display with signs. Bad are: a folder with an id, a project without one, an id that
+// is none, displays that are too short or have signs that folders don't have, a parent by its id, a name by its id or with a
+// leading zero, a state that is no truth value, an id that is null, an unknown member, and members in another order.
+static NODES: [(&str, &str, &str); 18] = [
+    (
+        "folders/1",
+        "{\"active\":true,\"display\":\"Ops\",\"parent\":\"organizations/1000\"}",
+        "kept",
+    ),
+    (
+        "projects/2",
+        "{\"active\":true,\"display\":\"Alpha\",\"parent\":\"folders/1\",\"project\":\"alpha-1\"}",
+        "kept",
+    ),
+    (
+        "folders/3",
+        "{\"active\":false,\"display\":\"Old - ops_1\",\"parent\":\"folders/1\"}",
+        "kept",
+    ),
+    (
+        "folders/4",
+        "{\"active\":true,\"display\":\"Ops\",\"parent\":\"projects/2\"}",
+        "kept",
+    ),
+    (
+        "projects/5",
+        "{\"active\":true,\"display\":\"It's \\\"A\\\"!\",\"parent\":\"folders/1\",\"project\":\"beta-22\"}",
+        "kept",
+    ),
+    (
+        "folders/1",
+        "{\"active\":true,\"display\":\"Ops\",\"parent\":\"organizations/1000\",\"project\":\"alpha-1\"}",
+        "bad",
+    ),
+    (
+        "projects/2",
+        "{\"active\":true,\"display\":\"Alpha\",\"parent\":\"folders/1\"}",
+        "bad",
+    ),
+    (
+        "projects/2",
+        "{\"active\":true,\"display\":\"Alpha\",\"parent\":\"folders/1\",\"project\":\"Alpha-1\"}",
+        "bad",
+    ),
+    (
+        "folders/1",
+        "{\"active\":true,\"display\":\"Op\",\"parent\":\"organizations/1000\"}",
+        "bad",
+    ),
+    (
+        "folders/1",
+        "{\"active\":true,\"display\":\"Ops!\",\"parent\":\"organizations/1000\"}",
+        "bad",
+    ),
+    (
+        "projects/2",
+        "{\"active\":true,\"display\":\"Alp\",\"parent\":\"folders/1\",\"project\":\"alpha-1\"}",
+        "bad",
+    ),
+    (
+        "folders/1",
+        "{\"active\":true,\"display\":\"Ops\",\"parent\":\"projects/alpha-1\"}",
+        "bad",
+    ),
+    (
+        "projects/alpha-1",
+        "{\"active\":true,\"display\":\"Alpha\",\"parent\":\"folders/1\",\"project\":\"alpha-1\"}",
+        "bad",
+    ),
+    (
+        "folders/01",
+        "{\"active\":true,\"display\":\"Ops\",\"parent\":\"organizations/1000\"}",
+        "bad",
+    ),
+    (
+        "folders/1",
+        "{\"active\":1,\"display\":\"Ops\",\"parent\":\"organizations/1000\"}",
+        "bad",
+    ),
+    (
+        "folders/1",
+        "{\"active\":true,\"display\":\"Ops\",\"parent\":\"organizations/1000\",\"project\":null}",
+        "bad",
+    ),
+    (
+        "folders/1",
+        "{\"active\":true,\"display\":\"Ops\",\"label\":1,\"parent\":\"organizations/1000\"}",
+        "bad",
+    ),
+    (
+        "folders/1",
+        "{\"display\":\"Ops\",\"active\":true,\"parent\":\"organizations/1000\"}",
+        "bad",
+    ),
+];
+
+// Parts, names and bodies of other rows, and what becomes of the row. Policies of folders and projects are kept; a project is
+// named by its number, and only an organisation has the organisation's row.
+static NAMED: [(&str, &str, &str, &str); 5] = [
+    ("allow", "folders/1", ALLOW, "kept"),
+    ("allow", "projects/2", ALLOW, "kept"),
+    ("allow", "projects/alpha-1", ALLOW, "bad"),
+    ("allow", "folders/0", ALLOW, "bad"),
+    ("org", "folders/1000", ORG, "bad"),
+];
+
+fn named() -> &'static [(&'static str, &'static str, &'static str, &'static str)] {
+    &NAMED
+}
+
+fn nodes() -> &'static [(&'static str, &'static str, &'static str)] {
+    &NODES
+}
+
 fn table() -> &'static [(&'static str, &'static str, &'static str)] {
     &ROWS
 }
@@ -72,8 +192,8 @@ fn again(alloc: Global, kept: &Row) -> Result<Row, RowStop> {
 }
 
 // What becomes of the row.
-fn fate(alloc: Global, part: &str, body: &str) -> Result<&'static str, OutOfMemory> {
-    let kept = row(alloc, part, NAME, body)?;
+fn fate(alloc: Global, part: &str, name: &str, body: &str) -> Result<&'static str, OutOfMemory> {
+    let kept = row(alloc, part, name, body)?;
     match again(alloc, &kept) {
         Ok(again) => Ok(if again == kept { "kept" } else { "another" }),
         Err(RowStop::BadRow) => Ok("bad"),
@@ -84,7 +204,31 @@ fn fate(alloc: Global, part: &str, body: &str) -> Result<&'static str, OutOfMemo
 #[test]
 fn rows_are_kept_or_bad(rt: HostRuntime) -> Result<(), Fail> {
     for (part, body, wanted) in table() {
-        assert_eq!(rt; fate(rt.alloc(), part, body)?, *wanted, "{body}");
+        assert_eq!(rt; fate(rt.alloc(), part, NAME, body)?, *wanted, "{body}");
+    }
+    Ok(())
+}
+
+#[test]
+fn rows_of_nodes_are_kept_or_bad(rt: HostRuntime) -> Result<(), Fail> {
+    for (name, body, wanted) in nodes() {
+        assert_eq!(rt;
+            fate(rt.alloc(), "node", name, body)?,
+            *wanted,
+            "{name} {body}"
+        );
+    }
+    Ok(())
+}
+
+#[test]
+fn other_rows_are_kept_or_bad(rt: HostRuntime) -> Result<(), Fail> {
+    for (part, name, body, wanted) in named() {
+        assert_eq!(rt;
+            fate(rt.alloc(), part, name, body)?,
+            *wanted,
+            "{part} {name}"
+        );
     }
     Ok(())
 }

@@ -1,3 +1,4 @@
+// What conditions come to.
 use crate::facts::{context, with_moment};
 use cel_meaning::evaluate;
 use cel_syntax::{ReadStop, read};

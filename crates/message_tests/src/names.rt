@@ -1,9 +1,11 @@
 // Names that are read and written back, names that aren't read, and the texts of the other forms.
+use crate::texts::push_times;
 use iam_names::{
     Caller, DenyPrincipal, Email, Leaf, Member, NodeId, NodeKind, NodeName, PermissionGroup,
     PermissionName, Pool, PrincipalSet, RoleName, copy_caller, copy_deny_principal, copy_email,
     copy_leaf, copy_member, copy_node_name, copy_permission, copy_permission_group, copy_pool,
-    copy_principal_set, copy_role_name, same_leaf, same_permission,
+    copy_principal_set, copy_role_name, is_folder_display, is_project_display, same_leaf,
+    same_permission,
 };
 use iam_text::{List, OutOfMemory, Text, let_go};
 use std::alloc::Global;
@@ -18,7 +20,7 @@ enum Kind {
 }
 
 /// Texts, and whether they are names that are written back.
-static NAMES: [(Kind, &str, bool); 13] = [
+static NAMES: [(Kind, &str, bool); 19] = [
     (Kind::Caller, "anonymous", true),
     (Kind::Caller, "user:ada@example.com", true),
     (Kind::Caller, "user:", false),
@@ -29,6 +31,12 @@ static NAMES: [(Kind, &str, bool); 13] = [
     (Kind::Node, "organizations/1000", true),
     (Kind::Node, "organizations/9000000000000000001", false),
     (Kind::Node, "organizations/01", false),
+    (Kind::Node, "folders/9000000000000000000", true),
+    (Kind::Node, "folders/alpha-1", false),
+    (Kind::Node, "projects/7", true),
+    (Kind::Node, "projects/alpha-1", true),
+    (Kind::Node, "projects/alpha-", false),
+    (Kind::Node, "projects/7alpha", false),
     (Kind::Permission, "resourcemanager.projects.get", true),
     (Kind::Permission, "resourcemanager.get", false),
     (Kind::Permission, "resourcemanager.projects.get.all", false),
@@ -84,9 +92,23 @@ fn names_are_read_and_written_back(rt: HostRuntime) -> Result<(), Fail> {
     Ok(())
 }
 
-fn push_letters(text: &mut String, count: usize) -> Result<(), OutOfMemory> {
-    for _ in 0..count {
-        text.push_str("a")?;
+/// Texts, and whether a folder and a project may be shown by them.
+static DISPLAYS: [(&str, bool, bool); 8] = [
+    ("Dev", true, false),
+    ("Alpha", true, true),
+    ("Team_1", true, false),
+    ("Ops!", false, true),
+    ("-Dev", false, true),
+    ("Platform Engineering Group One", true, true),
+    ("Platform Engineering Group Ones", false, false),
+    ("Bäume", false, false),
+];
+
+#[test]
+fn displays_have_their_forms(rt: HostRuntime) -> Result<(), Fail> {
+    for (text, folder, project) in &DISPLAYS {
+        assert_eq!(rt; is_folder_display(text), *folder, "{text}");
+        assert_eq!(rt; is_project_display(text), *project, "{text}");
     }
     Ok(())
 }
@@ -94,13 +116,13 @@ fn push_letters(text: &mut String, count: usize) -> Result<(), OutOfMemory> {
 // A user with so many bytes before `@` and in the three labels of the domain.
 fn user_of(alloc: Global, local: usize, labels: [usize; 3]) -> Result<String, OutOfMemory> {
     let mut text = String::from_str(alloc, "user:")?;
-    push_letters(&mut text, local)?;
+    push_times(&mut text, "a", local)?;
     text.push_str("@")?;
-    push_letters(&mut text, labels[0])?;
+    push_times(&mut text, "a", labels[0])?;
     text.push_str(".")?;
-    push_letters(&mut text, labels[1])?;
+    push_times(&mut text, "a", labels[1])?;
     text.push_str(".")?;
-    push_letters(&mut text, labels[2])?;
+    push_times(&mut text, "a", labels[2])?;
     Ok(text)
 }
 

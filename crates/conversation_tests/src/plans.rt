@@ -1,4 +1,5 @@
 // Words, and the plans that they say.
+use crate::running::words_of;
 use iam_names::{Caller, NodeName};
 use iam_plan::{Plan, PlanStop, plan_of};
 use iam_text::{List, OutOfMemory, Text, let_go};
@@ -153,14 +154,6 @@ static CASES: [(&str, &str); 60] = [
 // Behind a call that says nothing of it: what uses the table is proved without its texts.
 fn cases() -> &'static [(&'static str, &'static str)] {
     &CASES
-}
-
-fn words_of(alloc: Global, line: &str) -> Result<List<Text>, OutOfMemory> {
-    let mut words = List::new(alloc);
-    for word in line.split(' ') {
-        words.push(Text::of(alloc, word)?)?;
-    }
-    Ok(words)
 }
 
 fn file_of(db: &Option<Text>) -> &str {

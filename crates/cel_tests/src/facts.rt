@@ -1,3 +1,4 @@
+// What is known of a request.
 use cel_value::{Context, Facts, KeyAnswer, KeyFact, ValueFact};
 use iam_text::{List, Moment, OutOfMemory, Text};
 use std::alloc::Global;
