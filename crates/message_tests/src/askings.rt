@@ -267,18 +267,6 @@ fn refusal_text(alloc: Global, reply: &ErrorReply) -> Result<Text, OutOfMemory> 
     }
 }
 
-// Texts with a space between them; empty ones are left out.
-fn joined(alloc: Global, texts: &[&str]) -> Result<Text, OutOfMemory> {
-    let mut all = String::new(alloc);
-    for text in texts {
-        if !all.as_str().is_empty() && !text.is_empty() {
-            all.push_str(" ")?;
-        }
-        all.push_str(text)?;
-    }
-    Ok(Text::from(all))
-}
-
 // The caller, what it wants of a node, and what it gives.
 fn told(
     alloc: Global,
@@ -288,7 +276,8 @@ fn told(
     given: &str,
 ) -> Result<Text, OutOfMemory> {
     let node = node.text(alloc)?;
-    joined(alloc, &[caller, want, node.as_str(), given])
+    let space = if given.is_empty() { "" } else { " " };
+    Ok(Text::from(format!(in alloc; "{caller} {want} {}{space}{given}", node.as_str())?))
 }
 
 // The caller, what it wants of a node, and what it gives, as an answer shows it.
@@ -402,7 +391,7 @@ fn want_text(
             told(alloc, caller, "makes a folder in", node, display.as_str())
         }
         Want::NewProject { project, display } => {
-            let given = joined(alloc, &[project.as_str(), display.as_str()])?;
+            let given = format!(in alloc; "{} {}", project.as_str(), display.as_str())?;
             told(alloc, caller, "makes a project in", node, given.as_str())
         }
     }
