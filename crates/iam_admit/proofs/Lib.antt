@@ -1,5 +1,3 @@
 pub mod Creating
 pub mod Following
 pub mod Known
-pub mod Runs
-pub mod Sorted

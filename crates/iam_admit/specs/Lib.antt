@@ -1,4 +1,3 @@
 pub mod Creating
 pub mod Facts
 pub mod Follows
-pub mod Given

@@ -12,8 +12,8 @@ use crate::stop::AdmitStop;
 use iam_judge::Index;
 use iam_law::accepted_entries_fit;
 use iam_model::{changes_are_formed, changes_lead};
-use iam_tables::{Command, Entry, FactChange, Refusal};
 use iam_text::{List, OutOfMemory};
+use iam_types::{Command, Entry, FactChange, Refusal};
 use std::alloc::Global;
 
 /// An entry that no rule refuses: what it changes, one fact after another.

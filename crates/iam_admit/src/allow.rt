@@ -16,14 +16,15 @@ use crate::changes::set_changes;
 use crate::queries::may_set;
 use crate::rules::{active, few_changes, found, within};
 use crate::stop::AdmitStop;
+use iam_catalogue::Catalogue;
 use iam_judge::Index;
 use iam_model::changes_are_countable;
 use iam_names::{NodeId, NodeName, copy_role_name};
-use iam_tables::{
-    Binding, Catalogue, Entry, FactChange, LimitName, Refusal, Tables, bindings_at, count_groups,
-    count_members, etag_of, is_role, is_version, members_after,
+use iam_readings::{
+    bindings_at, count_groups, count_members, etag_of, is_role, is_version, members_after,
 };
 use iam_text::List;
+use iam_types::{Binding, Entry, FactChange, LimitName, Refusal, Tables};
 use std::alloc::Global;
 
 // The etag, where one is given, is the policy's.

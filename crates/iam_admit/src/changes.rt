@@ -5,8 +5,9 @@ ghost use Rattle.iam_model.specs.Creation as creation_spec;
 ghost use Rattle.iam_model.specs.Shared as shared_spec;
 
 use iam_names::NodeId;
-use iam_tables::{Binding, Fact, FactChange, Node, Org, Tables, copy_org, policy_after};
+use iam_readings::policy_after;
 use iam_text::{List, OutOfMemory};
+use iam_types::{Binding, Fact, FactChange, Node, Org, Tables, copy_org};
 use std::alloc::Global;
 
 fn changed(org: &Org) -> Result<Org, OutOfMemory>

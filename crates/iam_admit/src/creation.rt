@@ -21,11 +21,11 @@ use crate::stop::AdmitStop;
 use iam_judge::Index;
 use iam_model::{changes_are_countable, new_nodes_are_counted};
 use iam_names::{NodeId, NodeKind, NodeName};
-use iam_tables::{
-    DEEPEST, Entry, FactChange, Fault, LimitName, Node, Refusal, Tables, count_folders,
-    depth_below, has_own_name, new_folder, new_project, project_with,
+use iam_readings::{
+    DEEPEST, count_folders, depth_below, has_own_name, new_folder, new_project, project_with,
 };
 use iam_text::{List, OutOfMemory, Text};
+use iam_types::{Entry, FactChange, Fault, LimitName, Node, Refusal, Tables};
 use std::alloc::Global;
 
 fn taken(alloc: Global, project: &Text) -> Result<Refusal, OutOfMemory>

@@ -8,10 +8,8 @@ mod accepted;
 mod allow;
 mod changes;
 mod creation;
-mod modified;
 mod queries;
 mod rules;
 mod stop;
 
 pub use accepted::{Accepted, admit};
-pub use modified::modified_roles;

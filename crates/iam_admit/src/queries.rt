@@ -3,36 +3,20 @@ ghost use Rattle.std.specs.Prelude.{◌≡◌, [], IfOk, IsTrue, codes};
 ghost use Rattle.iam_model.specs.Catalogue.{is_permission};
 ghost use Rattle.iam_model.specs.Nodes.{exists};
 ghost use Rattle.iam_law.specs.Admit as spec;
-ghost use Rattle.iam_law.specs.Asked.{forbidden, permission_at, query_on};
+ghost use Rattle.iam_law.specs.Asked as asked_spec;
+ghost use Rattle.iam_law.specs.Asked.{permission_at, query_on};
 ghost use Rattle.iam_admit.specs.Follows.{Follows};
 
-use crate::modified::modified_roles;
 use crate::rules::allowed;
 use crate::stop::AdmitStop;
-use iam_judge::{Index, resource_facts_of};
+use iam_catalogue::permission_named;
+use iam_judge::{Index, forbidden, resource_facts_of};
+use iam_modified::modified_roles;
 use iam_names::{Caller, NodeId, NodeKind, PermissionName, copy_caller, copy_permission};
-use iam_tables::{Binding, Query, Tables, bindings_at, permission_named};
-use iam_text::{List, Moment, OutOfMemory};
+use iam_readings::bindings_at;
+use iam_text::{Moment, OutOfMemory};
+use iam_types::{Binding, Query, Tables};
 use std::alloc::Global;
-
-fn plain_query(
-    alloc: Global,
-    caller: &Caller,
-    moment: Moment,
-    permission: &PermissionName,
-    node: NodeId,
-) -> Result<Query, OutOfMemory>
-    ensures { IfOk result (λ query. query ≡ query_on caller.now moment [] permission.now node) }
-{
-    Ok(Query {
-        caller: copy_caller(caller)?,
-        node,
-        permission: copy_permission(permission)?,
-        resource: resource_facts_of(alloc, node)?,
-        moment,
-        modified: List::new(alloc),
-    })
-}
 
 /// The caller may use a permission on a node, where no role of its policy is to be modified.
 pub fn may(
@@ -45,12 +29,12 @@ pub fn may(
 ) -> Result<(), AdmitStop>
     requires node { IsTrue (exists index.now node) }
     requires permission { IsTrue (is_permission text.now) }
-    ensures { Follows result (forbidden index.now (query_on caller.now moment [] text.now node)) }
+    ensures { Follows result (asked_spec.forbidden index.now (query_on caller.now moment [] text.now node)) }
 {
-    let permission = permission_named(alloc, text)?;
-    let query = plain_query(alloc, caller, moment, &permission, node)?;
-    let decision = index.decision(alloc, &query)?;
-    allowed(permission, decision)
+    match forbidden(alloc, index, caller, moment, text, node)? {
+        Some(refusal) => Err(AdmitStop::Refused(refusal)),
+        None => Ok(()),
+    }
 }
 
 fn set_text(kind: NodeKind) -> &'static str

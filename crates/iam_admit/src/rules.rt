@@ -11,8 +11,9 @@ ghost use Rattle.iam_admit.specs.Follows.{Follows};
 use crate::stop::AdmitStop;
 use iam_judge::unless_allowed;
 use iam_names::{NodeId, NodeName, PermissionName};
-use iam_tables::{Decision, LimitName, Refusal, Tables, is_active, limit_of, resolve};
+use iam_readings::{is_active, limit_of, resolve};
 use iam_text::OutOfMemory;
+use iam_types::{Decision, LimitName, Refusal, Tables};
 use std::alloc::Global;
 
 fn not_found(alloc: Global, name: &NodeName) -> Result<Refusal, OutOfMemory>

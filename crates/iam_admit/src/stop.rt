@@ -1,6 +1,6 @@
 // How the trying of rules stops.
-use iam_tables::Refusal;
 use iam_text::OutOfMemory;
+use iam_types::Refusal;
 
 /// Why an entry isn't accepted: a rule refuses it, or memory was refused.
 #[derive(Drop)]

@@ -1,5 +1,5 @@
 -- What is shown of nodes.
-use Rattle.std.specs.Prelude.{ℕ, ◌-◌, List, [], ◌∷◌, codes}
+use Rattle.std.specs.Prelude.{◌-◌, [], ◌∷◌, codes}
 use Rattle.std.specs.declared.option.Option.{Option}
 use Rattle.std.specs.declared.option.Option.TheVariants.{None, Some}
 use Rattle.iam_text.specs.declared.moment.Moment.{Moment}
@@ -13,7 +13,6 @@ use Rattle.iam_types.specs.declared.answer.Resource.{Resource}
 use Rattle.iam_types.specs.declared.answer.Resource.TheVariants as resource
 use Rattle.iam_types.specs.declared.node.Node.{Node}
 use Rattle.iam_types.specs.declared.node.Org.{Org}
-use Rattle.iam_types.specs.declared.refusal.Refusal.{Refusal}
 use Rattle.iam_types.specs.declared.tables.Tables.{Tables}
 use Rattle.iam_model.specs.Nodes.{children_of, node_at}
 use Rattle.iam_law.specs.Asked.{permission_at}

@@ -11,8 +11,9 @@ use crate::policies::policy;
 use crate::testing::test;
 use iam_judge::Index;
 use iam_names::{Caller, NodeName};
-use iam_tables::{Answer, Ask, Refusal, Resource, resolve};
+use iam_readings::resolve;
 use iam_text::{Moment, OutOfMemory};
+use iam_types::{Answer, Ask, Refusal, Resource};
 use std::alloc::Global;
 
 fn not_found(alloc: Global, node: &NodeName) -> Result<Answer, OutOfMemory>

@@ -7,8 +7,9 @@ use crate::nodes::creation_shown;
 use crate::policies::policy_shown;
 use iam_judge::Index;
 use iam_names::{NodeKind, NodeName};
-use iam_tables::{Answer, Command, Resource, resolve};
+use iam_readings::resolve;
 use iam_text::OutOfMemory;
+use iam_types::{Answer, Command, Resource};
 use std::alloc::Global;
 
 fn policy_written(alloc: Global, index: &Index, node: &NodeName) -> Result<Answer, OutOfMemory>

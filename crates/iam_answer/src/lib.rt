@@ -10,7 +10,6 @@ mod changes;
 mod laws;
 mod nodes;
 mod policies;
-mod queries;
 mod replies;
 mod stored;
 mod testing;

@@ -5,11 +5,11 @@ ghost use Rattle.iam_model.specs.Nodes.{exists};
 ghost use Rattle.iam_law.specs.Asked.{permission_at};
 ghost use Rattle.iam_answer.specs.NodeAnswers as node_spec;
 
-use crate::queries::may_not;
-use iam_judge::Index;
+use iam_judge::{Index, forbidden};
 use iam_names::{Caller, NodeId, NodeKind};
-use iam_tables::{Answer, Node, Org, Resource, Tables, children_of, copy_node, copy_org, node_at};
+use iam_readings::{children_of, node_at};
 use iam_text::{Moment, OutOfMemory};
+use iam_types::{Answer, Node, Org, Resource, Tables, copy_node, copy_org};
 use std::alloc::Global;
 
 fn organization_shown(org: &Org) -> Result<Resource, OutOfMemory>
@@ -64,7 +64,7 @@ pub fn node(
     requires { IsTrue (exists index.now node) }
     ensures { IfOk result (λ answer. answer ≡ node_spec.node_answer index.now node caller.now moment) }
 {
-    let refusal = may_not(alloc, index, node, caller, moment, get_text(node.kind))?;
+    let refusal = forbidden(alloc, index, caller, moment, get_text(node.kind), node)?;
     if let Some(refusal) = refusal {
         return Ok(Answer::Refused(refusal));
     }
@@ -83,7 +83,7 @@ pub fn folders(
     ensures { IfOk result (λ answer. answer ≡ node_spec.folders_answer index.now parent caller.now moment) }
 {
     let list = "resourcemanager.folders.list";
-    if let Some(refusal) = may_not(alloc, index, parent, caller, moment, list)? {
+    if let Some(refusal) = forbidden(alloc, index, caller, moment, list, parent)? {
         return Ok(Answer::Refused(refusal));
     }
     Ok(Answer::Folders(children_of(alloc, index.tables(), NodeKind::Folder, parent)?))
@@ -101,7 +101,7 @@ pub fn projects(
     ensures { IfOk result (λ answer. answer ≡ node_spec.projects_answer index.now parent caller.now moment) }
 {
     let list = "resourcemanager.projects.list";
-    if let Some(refusal) = may_not(alloc, index, parent, caller, moment, list)? {
+    if let Some(refusal) = forbidden(alloc, index, caller, moment, list, parent)? {
         return Ok(Answer::Refused(refusal));
     }
     Ok(Answer::Projects(children_of(alloc, index.tables(), NodeKind::Project, parent)?))

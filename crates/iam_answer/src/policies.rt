@@ -4,11 +4,11 @@ ghost use Rattle.iam_model.specs.Nodes.{exists};
 ghost use Rattle.iam_law.specs.Asked.{permission_at};
 ghost use Rattle.iam_answer.specs.Answer.{may_not_get, policy_answer, policy_shown};
 
-use crate::queries::may_not;
-use iam_judge::Index;
+use iam_judge::{Index, forbidden};
 use iam_names::{Caller, NodeId, NodeKind};
-use iam_tables::{Answer, Binding, Refusal, Tables, copy_binding, is_version, policy_of};
+use iam_readings::{is_version, policy_of};
 use iam_text::{List, Moment, OutOfMemory};
+use iam_types::{Answer, Binding, Refusal, Tables, copy_binding};
 use std::alloc::Global;
 
 fn get_text(kind: NodeKind) -> &'static str
@@ -32,7 +32,7 @@ fn may_not_get(
     requires { IsTrue (exists index.now node) }
     ensures { IfOk result (λ refusal. refusal ≡ may_not_get index.now node caller.now moment) }
 {
-    may_not(alloc, index, node, caller, moment, get_text(node.kind))
+    forbidden(alloc, index, caller, moment, get_text(node.kind), node)
 }
 
 // Copies of the bindings.

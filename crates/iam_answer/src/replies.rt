@@ -5,8 +5,8 @@ ghost use Rattle.iam_answer.specs.Replies as spec;
 ghost use Rattle.iam_wire.specs.Reply.{bytes_of};
 
 use iam_json::{Details, ErrorReply, answer_body, code_of, error_body, refusal_code};
-use iam_tables::Answer;
 use iam_text::{List, Moment, OutOfMemory, let_go};
+use iam_types::Answer;
 use iam_wire::{Reply, reply_bytes};
 use std::alloc::Global;
 

@@ -7,12 +7,24 @@ ghost use Rattle.iam_model.specs.Nodes.{exists};
 ghost use Rattle.iam_answer.specs.Answer.{test_answer};
 ghost use Rattle.iam_answer.specs.Asking as asking_spec;
 
-use crate::queries::{allows, decision_of};
-use iam_judge::Index;
+use iam_catalogue::{Catalogue, is_permission};
+use iam_judge::{Index, decision_on};
 use iam_names::{Caller, NodeId, PermissionName, copy_permission};
-use iam_tables::{Answer, Catalogue, LimitName, Refusal, is_permission, limit_of};
+use iam_readings::limit_of;
 use iam_text::{List, Moment, OutOfMemory};
+use iam_types::{Answer, Decision, LimitName, Refusal};
 use std::alloc::Global;
+
+fn allows(decision: &Decision) -> bool
+    ensures { result ≡ asking_spec.allows decision.now }
+{
+    match decision {
+        Decision::Allowed { .. } => true,
+        Decision::DeniedBoundary { .. } | Decision::DeniedRule { .. } | Decision::NotGranted => {
+            false
+        }
+    }
+}
 
 fn is_allowed(
     alloc: Global,
@@ -26,7 +38,7 @@ fn is_allowed(
     requires permission { IsTrue (catalogue_spec.is_permission permission.now) }
     ensures { IfOk result (λ allowed. allowed ≡ asking_spec.is_allowed index.now node caller.now moment permission.now) }
 {
-    let decision = decision_of(alloc, index, node, caller, moment, permission)?;
+    let decision = decision_on(alloc, index, caller, moment, permission, node)?;
     Ok(allows(&decision))
 }
 

@@ -8,10 +8,11 @@ ghost use Rattle.iam_ask.specs.Access as access_spec;
 ghost use Rattle.iam_ask.specs.Access.{access, access_line};
 
 use crate::words::words_of;
-use iam_judge::{Index, resource_facts_of};
-use iam_names::{Caller, NodeId, NodeName, PermissionName, copy_caller};
-use iam_tables::{Catalogue, Query, permission_named, resolve};
-use iam_text::{List, Moment, OutOfMemory, Text};
+use iam_catalogue::{Catalogue, permission_named};
+use iam_judge::{Index, decision_on};
+use iam_names::{Caller, NodeId, NodeName, PermissionName};
+use iam_readings::resolve;
+use iam_text::{Moment, OutOfMemory, Text};
 use std::alloc::Global;
 
 fn is_known(catalogue: &Catalogue, text: &str) -> bool
@@ -21,25 +22,6 @@ fn is_known(catalogue: &Catalogue, text: &str) -> bool
         .permissions()
         .iter()
         .any(|permit| permit.name.as_str() == text)
-}
-
-fn query_on(
-    alloc: Global,
-    caller: &Caller,
-    moment: Moment,
-    permission: PermissionName,
-    node: NodeId,
-) -> Result<Query, OutOfMemory>
-    ensures { IfOk result (λ query. query ≡ asked_spec.query_on caller.now moment [] permission node) }
-{
-    Ok(Query {
-        caller: copy_caller(caller)?,
-        node,
-        permission,
-        resource: resource_facts_of(alloc, node)?,
-        moment,
-        modified: List::new(alloc),
-    })
 }
 
 fn decided(
@@ -54,8 +36,7 @@ fn decided(
     requires permission { IsTrue (is_permission permission) }
     ensures { IfOk result (λ text. string_bytes text ≡ access_spec.words_of (decide index.now (asked_spec.query_on caller.now moment [] permission node))) }
 {
-    let query = query_on(alloc, caller, moment, permission, node)?;
-    let decision = index.decision(alloc, &query)?;
+    let decision = decision_on(alloc, index, caller, moment, &permission, node)?;
     words_of(alloc, &decision)
 }
 

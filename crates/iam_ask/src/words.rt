@@ -5,8 +5,8 @@ ghost use Rattle.iam_names.specs.Node.{node_id_text};
 ghost use Rattle.iam_ask.specs.Access as spec;
 
 use iam_names::NodeId;
-use iam_tables::Decision;
 use iam_text::OutOfMemory;
+use iam_types::Decision;
 use std::alloc::Global;
 use std::fmt::Write;
 

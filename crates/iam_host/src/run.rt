@@ -1,10 +1,10 @@
 // The run.
 use crate::keepers::{file_keeper, memory_keeper};
 use crate::words::words_of;
+use iam_catalogue::Catalogue;
 use iam_outer::{Keeper, Pair, StdinSource, StdoutSink, SystemClock, Text, Zones};
 use iam_plan::{Plan, PlanStop, plan_of};
 use iam_server::{Status, run};
-use iam_tables::Catalogue;
 use iam_text::let_go;
 use std::alloc::Global;
 use std::io;

@@ -14,10 +14,12 @@ ghost use Rattle.iam_judge.specs.Leading.{role_before};
 
 use crate::holds::holds;
 use crate::roles::grants;
+use iam_catalogue::Catalogue;
 use iam_law::{firsts_are_one, grants_are_first};
 use iam_names::{Caller, Member, NodeId};
-use iam_tables::{Binding, Catalogue, Condition, Decision, Query, Tables, bindings_at, way_up};
+use iam_readings::{bindings_at, way_up};
 use iam_text::{OutOfMemory, Text};
+use iam_types::{Binding, Condition, Decision, Query, Tables};
 use std::alloc::Global;
 use std::cmp::Ordering;
 

@@ -3,7 +3,7 @@ ghost use Rattle.std.specs.Prelude.{◌≡◌};
 ghost use Rattle.iam_law.specs.Asked as spec;
 
 use iam_names::PermissionName;
-use iam_tables::{Decision, Refusal};
+use iam_types::{Decision, Refusal};
 
 /// The refusal of a call that needs the permission, where the decision doesn't allow it.
 pub fn unless_allowed(permission: PermissionName, decision: Decision) -> Option<Refusal>

@@ -6,8 +6,8 @@ ghost use Rattle.iam_model.specs.Holds as holds_spec;
 ghost use Rattle.iam_model.specs.Same as same_spec;
 
 use iam_names::{Caller, Email, Member, Pool};
-use iam_tables::Tables;
 use iam_text::{List, Text};
+use iam_types::Tables;
 
 fn same_pool(a: &Pool, b: &Pool) -> bool
     ensures { result ≡ same_spec.same_pool a.now b.now }

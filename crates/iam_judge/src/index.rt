@@ -9,12 +9,14 @@ ghost use Rattle.iam_law.specs.Decide as spec;
 ghost use Rattle.iam_law.specs.Good.{ConditionsStand, Good};
 
 use crate::decide::decide;
+use iam_catalogue::Catalogue;
+use iam_changes::apply;
 use iam_law::{accepted_entries_fit, conditions_stand};
 use iam_model::policies_are_countable;
 use iam_outer::Zones;
 use iam_steps::Steps;
-use iam_tables::{Catalogue, Decision, Entry, Query, Tables, apply};
 use iam_text::OutOfMemory;
+use iam_types::{Decision, Entry, Query, Tables};
 use std::alloc::Global;
 use std::marker::Model;
 use std::sync::ledger::Ledger;

@@ -4,6 +4,7 @@
 //! `iam_law` give in them. It scans the tables.
 #![tactic(auto)]
 
+mod asking;
 mod decide;
 mod decided;
 mod holds;
@@ -11,6 +12,7 @@ mod index;
 mod resource;
 mod roles;
 
+pub use asking::{decision_on, forbidden};
 pub use decided::unless_allowed;
 pub use iam_steps::Steps;
 pub use index::{BuildStop, Index};

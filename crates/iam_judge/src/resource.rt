@@ -3,8 +3,8 @@ ghost use Rattle.std.specs.Prelude.{◌≡◌, IfOk};
 ghost use Rattle.iam_law.specs.ResourceFacts.{facts_of_node, kind_text};
 
 use iam_names::{NodeId, NodeKind};
-use iam_tables::ResourceFacts;
 use iam_text::{OutOfMemory, Text};
+use iam_types::ResourceFacts;
 use std::alloc::Global;
 
 fn kind_of(kind: NodeKind) -> &'static str

@@ -3,8 +3,9 @@ ghost use Rattle.std.specs.Prelude.{◌≡◌};
 ghost use Rattle.iam_model.specs.Presets.{presets};
 ghost use Rattle.iam_model.specs.Roles as spec;
 
+use iam_catalogue::{Catalogue, same_role};
 use iam_names::{PermissionName, RoleName};
-use iam_tables::{Catalogue, Preset, Role, Stage, Tables, same_role};
+use iam_types::{Preset, Role, Stage, Tables};
 
 fn lists(permissions: &[PermissionName], permission: &PermissionName) -> bool
     ensures { result ≡ spec.lists permissions.now permission.now }

@@ -8,7 +8,7 @@ ghost use Rattle.iam_rows.specs.Kept.{AreRows};
 
 use iam_outer::{Keeper, KeeperStop};
 use iam_rows::{rows_follow_changes, writes_of};
-use iam_tables::FactChange;
+use iam_types::FactChange;
 use std::alloc::Global;
 
 /// Keeps changes: all of them in one commit, or none.

@@ -16,6 +16,7 @@ ghost use Rattle.iam_keeping.specs.Opened.{IsOpenedFrom, IsLeft, IsLoadFault};
 ghost use Rattle.iam_rows.specs.Kept.{AreFactsOf, AreRows, AreWrites, KeepsTables};
 
 use crate::stop::{LoadFault, OpenStop};
+use iam_catalogue::Catalogue;
 use iam_judge::{BuildStop, Index};
 use iam_law::{conditions_stand, openings_are_good};
 use iam_model::{facts_are_put, given_tables_are_consistent, ordered_facts_are_placed};
@@ -23,10 +24,9 @@ use iam_outer::{Keeper, Row, RowWrite, Zones};
 use iam_rows::{
     LoadStop, facts_of_rows, facts_stand_as_rows, puts_of, read_facts_are_kept, rows_follow_changes,
 };
-use iam_tables::{
-    Catalogue, Fact, Opening, Tables, TablesStop, facts_of, from_facts, opening_tables,
-};
+use iam_tables::{TablesStop, facts_of, from_facts, opening_tables};
 use iam_text::{List, OutOfMemory, let_go};
+use iam_types::{Fact, Opening, Tables};
 use std::alloc::Global;
 
 // The index over consistent tables.

@@ -6,9 +6,11 @@ use crate::rows::rows;
 use crate::words::cut;
 use iam_names::{NodeId, NodeKind};
 use iam_outer::Row;
+use iam_readings::{children_of, way_up};
 use iam_rows::{LoadStop, facts_of_rows};
-use iam_tables::{Fact, Tables, TablesStop, children_of, from_facts, way_up};
+use iam_tables::{TablesStop, from_facts};
 use iam_text::{List, OutOfMemory, let_go};
+use iam_types::{Fact, Tables};
 use std::alloc::Global;
 use std::fmt::Write;
 

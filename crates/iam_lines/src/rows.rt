@@ -5,8 +5,8 @@ ghost use Rattle.iam_model.specs.Formed.{IsFact};
 use crate::words::{cut, repeated};
 use iam_outer::{Row, RowWrite};
 use iam_rows::{RowStop, fact_of, row_of, writes_of};
-use iam_tables::{Fact, FactChange};
 use iam_text::{List, OutOfMemory, Text, let_go};
+use iam_types::{Fact, FactChange};
 use std::alloc::Global;
 use std::fmt::Write;
 

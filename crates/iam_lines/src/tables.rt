@@ -14,9 +14,11 @@
 use crate::facts::tell_rows;
 use crate::rows::{tell_fate, tell_writes};
 use crate::words::cut;
+use iam_catalogue::Catalogue;
 use iam_names::{Email, Member, RoleName};
-use iam_tables::{Binding, Catalogue, count_groups};
+use iam_readings::count_groups;
 use iam_text::{List, OutOfMemory, Text};
+use iam_types::Binding;
 use std::alloc::Global;
 use std::fmt::Write;
 

@@ -14,8 +14,8 @@ use iam_law::{accepted_changes_are_counted, changes_keep_good};
 use iam_names::Caller;
 use iam_office::{FloorStop, Numbered, Office, WriteStop};
 use iam_outer::Keeper;
-use iam_tables::{Answer, Ask, Entry};
 use iam_text::{Moment, OutOfMemory, let_go};
+use iam_types::{Answer, Ask, Entry};
 use std::alloc::Global;
 use std::marker::Model;
 

@@ -20,8 +20,8 @@ use iam_law::{
 use iam_model::changes_are_countable;
 use iam_office::{Numbered, WriteStop};
 use iam_outer::{Keeper, KeeperStop};
-use iam_tables::{Answer, Command, Entry, FactChange};
 use iam_text::{OutOfMemory, let_go};
+use iam_types::{Answer, Command, Entry, FactChange};
 use std::alloc::Global;
 
 /// What is known of legal histories.

@@ -20,8 +20,8 @@ use iam_json::{Call, Details, ErrorReply};
 use iam_names::Caller;
 use iam_outer::{Clock, Step};
 use iam_routes::{Asked, Routes, asked};
-use iam_tables::{Answer, Ask, Command, Entry, Refusal};
 use iam_text::{List, Moment, let_go};
+use iam_types::{Answer, Ask, Command, Entry, Refusal};
 use iam_wire::Message;
 use std::alloc::Global;
 

@@ -5,8 +5,8 @@ ghost use Rattle.iam_law.specs.History.{Legal};
 ghost use Rattle.iam_outer.specs.Causes.{Rose};
 
 use iam_names::Caller;
-use iam_tables::{Answer, Ask, Entry};
 use iam_text::{Moment, OutOfMemory};
+use iam_types::{Answer, Ask, Entry};
 use std::alloc::Global;
 
 /// A value, and the number of the state that gave it.

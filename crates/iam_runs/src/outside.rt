@@ -1,11 +1,11 @@
 // What a run stands on, in memory.
 use crate::case::Case;
+use iam_catalogue::Catalogue;
 use iam_outer::{
     Line, List, MemoryClock, MemoryKeeper, MemorySink, MemorySource, Moment, OutOfMemory, Pair,
     Row, Text, Zones,
 };
 use iam_server::{RunEnd, run};
-use iam_tables::Catalogue;
 use std::alloc::Global;
 
 // The one moment that the clock gives.

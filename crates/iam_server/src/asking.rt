@@ -8,11 +8,11 @@ ghost use Rattle.iam_server.specs.Run.{CameTo, EndsWithCause, ToldAt, WroteLine,
 
 use crate::opening::{opened, without_talk};
 use crate::{RunEnd, Status};
+use iam_catalogue::Catalogue;
 use iam_judge::Index;
 use iam_names::{Caller, NodeName};
 use iam_office::send_all;
 use iam_outer::{Clock, Keeper, Line, Moment, Text, Zones};
-use iam_tables::Catalogue;
 use std::alloc::Global;
 
 /// Whose access to what is asked.

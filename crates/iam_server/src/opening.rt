@@ -7,10 +7,11 @@ ghost use Rattle.iam_rows.specs.Kept.{KeepsTables};
 ghost use Rattle.iam_server.specs.Run.{EndsUnopened};
 
 use crate::{RunEnd, Status};
+use iam_catalogue::Catalogue;
 use iam_judge::Index;
 use iam_keeping::{OpenStop, open};
 use iam_outer::{Keeper, List, Zones};
-use iam_tables::{Catalogue, Opening};
+use iam_types::Opening;
 use std::alloc::Global;
 
 /// A run that has no conversation.

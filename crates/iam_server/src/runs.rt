@@ -13,12 +13,13 @@ ghost use Rattle.iam_server.specs.Run.{CameTo, EndsUnread, EndsWithCause, Talked
 use crate::asking::{Access, ask};
 use crate::opening::{opened, without_talk};
 use crate::{RunEnd, Status};
+use iam_catalogue::Catalogue;
 use iam_judge::Index;
 use iam_lone::converse_alone;
 use iam_outer::{Clock, Keeper, Line, TalkEnd, Text, Zones};
 use iam_plan::{Plan, PlanStop, openings_are_formed, plan_of};
-use iam_tables::{Catalogue, Opening};
 use iam_text::let_go;
+use iam_types::Opening;
 use std::alloc::Global;
 
 fn status_of(end: TalkEnd) -> Status

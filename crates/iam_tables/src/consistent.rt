@@ -9,15 +9,12 @@ ghost use Rattle.iam_model.specs.Limits as limit_spec;
 ghost use Rattle.iam_model.specs.Nodes as node_spec;
 ghost use Rattle.iam_model.specs.Policies as policy_spec;
 
-use crate::Catalogue;
-use crate::children::count_folders;
-use crate::count::{count_all_members, count_members};
-use crate::groups::count_groups;
 use crate::hierarchy::broken_hierarchy;
-use crate::limits::limit_of;
-use crate::nodes::exists;
 use crate::numbers::numbers_fit;
-use crate::reading::is_role;
+use iam_catalogue::Catalogue;
+use iam_readings::{
+    count_all_members, count_folders, count_groups, count_members, exists, is_role, limit_of,
+};
 use iam_text::OutOfMemory;
 use iam_types::{AllowPolicy, Binding, LimitName, Tables};
 use std::alloc::Global;

@@ -7,25 +7,12 @@ ghost use Rattle.iam_model.specs.Hierarchy as spec;
 ghost use Rattle.iam_model.specs.Nodes as node_spec;
 ghost use Rattle.iam_model.specs.Same as same_spec;
 
-use crate::nodes::{depth_below, is_active, organization_of, parent_of};
 use iam_model::ways_are_short;
-use iam_names::{NodeId, NodeKind};
+use iam_names::NodeId;
+use iam_readings::{
+    DEEPEST, depth_below, has_own_name, is_active, is_folder, organization_of, parent_of, same_node,
+};
 use iam_types::{Node, Tables};
-
-/// The deepest that a folder may stand.
-pub const DEEPEST: u64 = 10;
-
-fn is_folder(node: NodeId) -> bool
-    ensures { result ≡ node_spec.is_folder node }
-{
-    node.kind == NodeKind::Folder
-}
-
-fn same_node(a: NodeId, b: NodeId) -> bool
-    ensures { result ≡ same_spec.same_node a b }
-{
-    a == b
-}
 
 // Whether a node is the organisation, or a folder whose parents lead there through folders, in at most so many steps.
 fn is_led_up(tables: &Tables, steps: usize, node: NodeId) -> bool
@@ -81,35 +68,6 @@ fn all_shallow(tables: &Tables) -> bool
         .as_slice()
         .iter()
         .all(|row| is_shallow(tables, row))
-}
-
-fn is_active_folder(row: &Node) -> bool
-    ensures { result ≡ spec.is_active_folder row.now }
-{
-    row.active && is_folder(row.id)
-}
-
-fn are_namesakes(a: &Node, b: &Node) -> bool
-    ensures { result ≡ spec.are_namesakes a.now b.now }
-{
-    !same_node(a.id, b.id)
-        && is_active_folder(a)
-        && is_active_folder(b)
-        && same_node(a.parent, b.parent)
-        && a.display.as_str() == b.display.as_str()
-}
-
-fn has_namesake(nodes: &[Node], row: &Node) -> bool
-    ensures { result ≡ list_any (spec.are_namesakes row.now) nodes.now }
-{
-    nodes.iter().any(|other| are_namesakes(row, other))
-}
-
-/// Whether no other ACTIVE folder has the parent and the name of this one.
-pub fn has_own_name(nodes: &[Node], row: &Node) -> bool
-    ensures { result ≡ spec.is_alone spec.are_namesakes nodes.now row.now }
-{
-    !has_namesake(nodes, row)
 }
 
 fn all_named(nodes: &[Node]) -> bool

@@ -1,5 +1,5 @@
 use Rattle.iam_answer.proofs.Known.{list_folders_is_known}
 use Rattle.iam_answer.proofs.nodes.folders.Goals as goal
 
-pub may_not-requires-clause-permission : goal.may_not-requires-clause-permission
-may_not-requires-clause-permission c = list_folders_is_known
+pub forbidden-requires-clause-permission : goal.forbidden-requires-clause-permission
+forbidden-requires-clause-permission c = list_folders_is_known

@@ -1,6 +1,0 @@
-use Rattle.std.proofs.Common.{List, ℕ, IsTrue, sym, subst}
-use Rattle.iam_model.specs.Catalogue.{is_permission}
-use Rattle.iam_answer.proofs.queries.may_not.Goals as goal
-
-pub decision_of-requires-clause-permission : goal.decision_of-requires-clause-permission
-decision_of-requires-clause-permission c = subst (λ (text : List ℕ). IsTrue (is_permission text)) (sym c.in_ok-permission.ensures) c.requires.permission
