@@ -8,6 +8,7 @@ ghost use Rattle.iam_admit.specs.Follows.{Follows};
 
 use crate::allow::set_allow;
 use crate::creation::{create_folder, create_project};
+use crate::node_changes::{delete_node, rename_folder, undelete_node};
 use crate::stop::AdmitStop;
 use iam_judge::Index;
 use iam_law::accepted_entries_fit;
@@ -24,6 +25,7 @@ pub struct Accepted {
 
 // The changes of an entry that is accepted. The commands that can't be given yet change nothing.
 fn changes_of(alloc: Global, index: &Index, entry: &Entry) -> Result<List<FactChange>, AdmitStop>
+    requires { spec.IsEntry entry.now }
     ensures follows { Follows result (admission index.now entry.now) }
     ensures changes { IfOk result (λ changes. changes ≡ spec.changes_of index.now entry.now) }
 {
@@ -42,10 +44,12 @@ fn changes_of(alloc: Global, index: &Index, entry: &Entry) -> Result<List<FactCh
             parent,
             display,
         } => create_project(alloc, index, entry, project, parent, display),
-        Command::RenameFolder { .. }
-        | Command::Move { .. }
-        | Command::DeleteNode { .. }
-        | Command::UndeleteNode { .. }
+        Command::RenameFolder { node, display } => rename_folder(
+            alloc, index, entry, node, display,
+        ),
+        Command::DeleteNode { node } => delete_node(alloc, index, entry, node),
+        Command::UndeleteNode { node } => undelete_node(alloc, index, entry, node),
+        Command::Move { .. }
         | Command::CreateTagKey { .. }
         | Command::DeleteTagKey { .. }
         | Command::CreateTagValue { .. }

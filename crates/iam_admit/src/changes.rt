@@ -2,6 +2,7 @@
 ghost use Rattle.std.specs.Prelude.{◌≡◌, ◌+◌, ◌<◌, ◌≤◌, ◌^◌, IfOk};
 ghost use Rattle.iam_model.specs.Allow as allow_spec;
 ghost use Rattle.iam_model.specs.Creation as creation_spec;
+ghost use Rattle.iam_model.specs.NodeChanges as node_spec;
 ghost use Rattle.iam_model.specs.Shared as shared_spec;
 
 use iam_names::NodeId;
@@ -41,6 +42,22 @@ pub fn creation_changes(
     ensures { IfOk result (λ changes. changes ≡ creation_spec.added_changes tables.now node) }
 {
     let org = numbered(&tables.org)?;
+    let mut changes = List::new(alloc);
+    changes.push(FactChange::Put(Fact::Node(node)))?;
+    changes.push(FactChange::Put(Fact::Org(org)))?;
+    Ok(changes)
+}
+
+/// A change of a node puts the node, and the organisation with one more change.
+pub fn replaced_changes(
+    alloc: Global,
+    tables: &Tables,
+    node: Node,
+) -> Result<List<FactChange>, OutOfMemory>
+    requires { tables.now.org.changes + 1 < 2 ^ 64 }
+    ensures { IfOk result (λ changes. changes ≡ node_spec.replaced_changes tables.now node) }
+{
+    let org = changed(&tables.org)?;
     let mut changes = List::new(alloc);
     changes.push(FactChange::Put(Fact::Node(node)))?;
     changes.push(FactChange::Put(Fact::Org(org)))?;

@@ -16,14 +16,12 @@ ghost use Rattle.iam_admit.specs.Follows.{Follows};
 
 use crate::changes::creation_changes;
 use crate::queries::may;
-use crate::rules::{active, few_changes, found, within};
+use crate::rules::{active, few_changes, found, has_free_name, within};
 use crate::stop::AdmitStop;
 use iam_judge::Index;
 use iam_model::{changes_are_countable, new_nodes_are_counted};
 use iam_names::{NodeId, NodeKind, NodeName};
-use iam_readings::{
-    DEEPEST, count_folders, depth_below, has_own_name, new_folder, new_project, project_with,
-};
+use iam_readings::{DEEPEST, count_folders, depth_below, new_folder, new_project, project_with};
 use iam_text::{List, OutOfMemory, Text};
 use iam_types::{Entry, FactChange, Fault, LimitName, Node, Refusal, Tables};
 use std::alloc::Global;
@@ -106,15 +104,7 @@ fn has_new_name(tables: &Tables, node: &Node) -> Result<(), AdmitStop>
     ensures { Follows result (spec.taken_name (added node.now tables.now.nodes) node.now) }
 {
     new_nodes_are_counted();
-    if has_own_name(tables.nodes.as_slice(), node) {
-        Ok(())
-    } else {
-        Err(AdmitStop::Refused(Refusal::Hierarchy {
-            counted: 0,
-            limit: 0,
-            which: Fault::SiblingName,
-        }))
-    }
+    has_free_name(tables, node)
 }
 
 fn folder_fits(tables: &Tables, node: &Node) -> Result<(), AdmitStop>

@@ -8,6 +8,7 @@ mod accepted;
 mod allow;
 mod changes;
 mod creation;
+mod node_changes;
 mod queries;
 mod rules;
 mod stop;

@@ -2,6 +2,7 @@
 ghost use Rattle.std.specs.Prelude.{◌≡◌, ◌+◌, ◌<◌, ◌^◌, IfOk, IsTrue, Some};
 ghost use Rattle.iam_names.specs.Node.{node_text};
 ghost use Rattle.iam_types.specs.declared.refusal.Refusal.TheVariants.{NotActive, NotFound};
+ghost use Rattle.iam_model.specs.Creation.{taken_name};
 ghost use Rattle.iam_model.specs.Limits.{beyond};
 ghost use Rattle.iam_model.specs.Nodes as node_spec;
 ghost use Rattle.iam_model.specs.Shared.{inactive, many_changes, missing};
@@ -11,9 +12,9 @@ ghost use Rattle.iam_admit.specs.Follows.{Follows};
 use crate::stop::AdmitStop;
 use iam_judge::unless_allowed;
 use iam_names::{NodeId, NodeName, PermissionName};
-use iam_readings::{is_active, limit_of, resolve};
+use iam_readings::{has_own_name, is_active, limit_of, resolve};
 use iam_text::OutOfMemory;
-use iam_types::{Decision, LimitName, Refusal, Tables};
+use iam_types::{Decision, Fault, LimitName, Node, Refusal, Tables};
 use std::alloc::Global;
 
 fn not_found(alloc: Global, name: &NodeName) -> Result<Refusal, OutOfMemory>
@@ -35,7 +36,8 @@ pub fn found(alloc: Global, tables: &Tables, name: &NodeName) -> Result<NodeId, 
     }
 }
 
-fn not_active(alloc: Global, name: &NodeName) -> Result<Refusal, OutOfMemory>
+/// What a node that isn't ACTIVE is refused with.
+pub fn not_active(alloc: Global, name: &NodeName) -> Result<Refusal, OutOfMemory>
     ensures { IfOk result (λ refusal. refusal ≡ NotActive (node_text name.now)) }
 {
     let name = name.text(alloc)?;
@@ -55,6 +57,21 @@ pub fn active(
         Ok(())
     } else {
         Err(AdmitStop::Refused(not_active(alloc, name)?))
+    }
+}
+
+/// No ACTIVE folder with the same parent has the folder's name.
+pub fn has_free_name(tables: &Tables, node: &Node) -> Result<(), AdmitStop>
+    ensures { Follows result (taken_name tables.now.nodes node.now) }
+{
+    if has_own_name(tables.nodes.as_slice(), node) {
+        Ok(())
+    } else {
+        Err(AdmitStop::Refused(Refusal::Hierarchy {
+            counted: 0,
+            limit: 0,
+            which: Fault::SiblingName,
+        }))
     }
 }
 

@@ -1,5 +1,5 @@
 -- What a body gives to be written is well formed.
-use Rattle.std.proofs.Common.{◌≡◌, ℕ, true, List, [], ◌∷◌, All, subst, sym, refl, arith}
+use Rattle.std.proofs.Common.{◌≡◌, ◌≢◌, ℕ, true, List, [], ◌∷◌, All, ap, subst, sym, refl, arith}
 use Rattle.std.specs.Prelude.{Option, Result, Ok, codes}
 use Rattle.std.specs.List.{list_all}
 use Rattle.std.proofs.lemmas.Bool.{and_parts, and_from}
@@ -9,22 +9,27 @@ use Rattle.serde_json.specs.Find.{as_object}
 use Rattle.iam_names.specs.Bytes.{is_label_byte, is_project_display_byte}
 use Rattle.iam_names.specs.Display.{IsFolderDisplay, IsProjectDisplay}
 use Rattle.iam_names.specs.Node.{IsNodeName, IsProjectId, node_text}
+use Rattle.iam_names.specs.declared.node.NodeKind.TheVariants as kind
+use Rattle.iam_names.specs.declared.node.NodeName.{NodeName}
+use Rattle.iam_names.specs.declared.node.NodeName.TheVariants as name
 use Rattle.iam_types.specs.declared.allow.Binding.{Binding}
 use Rattle.iam_types.specs.declared.ask.Ask.{Ask}
 use Rattle.iam_types.specs.declared.ask.Ask.TheVariants.{Test, Policy, Node, Folders, Projects}
 use Rattle.iam_types.specs.declared.command.Command.{Command}
-use Rattle.iam_types.specs.declared.command.Command.TheVariants.{SetAllow}
+use Rattle.iam_types.specs.declared.command.Command.TheVariants.{SetAllow, RenameFolder}
 use Rattle.iam_model.specs.Allow.{IsGiven}
 use Rattle.iam_model.specs.Commands.{IsCommand}
+use Rattle.iam_model.specs.Nodes.{kind_named}
 use Rattle.iam_json_data.specs.Reading.{ReadsText, ReadsMember, present}
 use Rattle.iam_json_data.specs.Readers.{ReadsBinding}
 use Rattle.iam_json_data.proofs.Given.{binding_is, maybe_is, member_is, object_is, required_is}
 use Rattle.iam_json.specs.Bodies.{Made, ReadsTest, ReadsReading, ReadsBindings, ReadsPolicy, ReadsSetting}
 use Rattle.iam_json.specs.Calls.{ReadsLine}
-use Rattle.iam_json.specs.NodeBodies.{ReadsNothing, ReadsFolderDisplay, ReadsProjectDisplay, ReadsProjectId, ReadsNewFolder, ReadsNewProject, display_or}
+use Rattle.iam_json.specs.NodeBodies.{ReadsNothing, ReadsFolderDisplay, ReadsProjectDisplay, ReadsProjectId, ReadsNewFolder, ReadsRename, ReadsNewProject, display_or}
 use Rattle.iam_json.specs.declared.call.Call.TheVariants.{Write, Read}
 use Rattle.iam_json.specs.declared.route.Line.{Line}
 use Rattle.iam_json.specs.declared.route.Line.TheVariants as line
+use Rattle.iam_json.specs.declared.node.FolderDisplay.{FolderDisplay}
 use Rattle.iam_json.specs.declared.node.NewFolder.{NewFolder}
 use Rattle.iam_json.specs.declared.node.NewProject.{NewProject}
 use Rattle.iam_json.specs.declared.node.ProjectDisplay.{ProjectDisplay}
@@ -63,6 +68,18 @@ new_folder_is d folder is =
     let made = inside.2 in
     let display = required_is ReadsFolderDisplay (codes "displayName") (present (codes "displayName") d) made.0 made.1 in
     subst IsNewFolder (sym made.2) (parent.1.0, display.1.0)
+
+rename_is : (d : Data) (display : FolderDisplay) → ReadsRename d (Ok display) → IsFolderDisplay display.text
+rename_is d display is =
+    let shown = required_is ReadsFolderDisplay (codes "displayName") (present (codes "displayName") d) display (object_is _ (as_object d) display is) in
+    shown.1.0
+
+-- what isn't named as the organisation is named as something else
+child_is : (node : NodeName) → ((number : ℕ) → node ≢ name.Organization number) → kind_named node ≢ kind.Organization
+child_is (name.Organization number) other same = other number refl
+child_is (name.Folder number) other same = cc same
+child_is (name.ProjectNumber number) other same = cc same
+child_is (name.ProjectId id) other same = cc same
 
 -- an id is a display name
 id_byte_displays : (byte : ℕ) → is_label_byte byte ≡ true → is_project_display_byte byte ≡ true
@@ -119,3 +136,10 @@ command_is line.CreateFolder parts pairs d command reads =
     let formed = new_folder_is d reads.0 reads.1 in subst IsCommand (sym (same_command command _ reads.2)) formed
 command_is line.CreateProject parts pairs d command reads =
     let formed = new_project_is d reads.0 reads.1 in subst IsCommand (sym (same_command command _ reads.2)) formed
+command_is line.RenameFolder parts pairs d command reads =
+    let made : Made (λ (display : FolderDisplay). Write (RenameFolder reads.0 display.text)) (ReadsRename d) (Ok (Write command)) = reads.2 in
+    subst IsCommand (sym (same_command command _ made.2)) (reads.1.0.0, ap kind_named reads.1.1.1, rename_is d made.0 made.1)
+command_is line.DeleteNode parts pairs d command reads =
+    subst IsCommand (sym (same_command command _ reads.2.2)) (reads.1.0.0, child_is reads.0 reads.1.1)
+command_is line.UndeleteNode parts pairs d command reads =
+    subst IsCommand (sym (same_command command _ reads.2.2)) (reads.1.0.0, child_is reads.0 reads.1.1)

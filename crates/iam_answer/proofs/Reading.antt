@@ -5,11 +5,12 @@ use Rattle.serde_json.specs.Data.{Data}
 use Rattle.iam_types.specs.declared.ask.Ask.{Ask}
 use Rattle.iam_types.specs.declared.ask.Ask.TheVariants.{Test, Policy, Node, Folders, Projects}
 use Rattle.iam_types.specs.declared.command.Command.{Command}
-use Rattle.iam_types.specs.declared.command.Command.TheVariants.{SetAllow, CreateFolder, CreateProject}
+use Rattle.iam_types.specs.declared.command.Command.TheVariants.{SetAllow, CreateFolder, RenameFolder, CreateProject, DeleteNode, UndeleteNode}
 use Rattle.iam_json.specs.Bodies.{Made, ReadsTest, ReadsReading, ReadsSetting}
 use Rattle.iam_json.specs.Calls.{ReadsLine}
-use Rattle.iam_json.specs.NodeBodies.{ReadsNothing, ReadsNewFolder, ReadsNewProject}
+use Rattle.iam_json.specs.NodeBodies.{ReadsNothing, ReadsNewFolder, ReadsRename, ReadsNewProject}
 use Rattle.iam_json.specs.declared.call.Call.TheVariants.{Write, Read}
+use Rattle.iam_json.specs.declared.node.FolderDisplay.{FolderDisplay}
 use Rattle.iam_json.specs.declared.node.NewFolder.{NewFolder}
 use Rattle.iam_json.specs.declared.node.NewProject.{NewProject}
 use Rattle.iam_json.specs.declared.policy.GivenPolicy.{GivenPolicy}
@@ -25,6 +26,9 @@ reads_at line.ListFolders = true
 reads_at line.ListProjects = true
 reads_at line.CreateFolder = false
 reads_at line.CreateProject = false
+reads_at line.RenameFolder = false
+reads_at line.DeleteNode = false
+reads_at line.UndeleteNode = false
 
 not_read : (command : Command) (ask : Ask) → Write command ≡ Read ask → ⊥
 not_read command ask is = cc is
@@ -50,6 +54,9 @@ read_line line.ListFolders parts pairs d ask reads = refl
 read_line line.ListProjects parts pairs d ask reads = refl
 read_line line.CreateFolder parts pairs d ask reads = absurd (never_write (λ (folder : NewFolder). CreateFolder folder.parent folder.display) (ReadsNewFolder d) ask reads)
 read_line line.CreateProject parts pairs d ask reads = absurd (never_write (λ (new : NewProject). CreateProject new.project new.parent new.display) (ReadsNewProject d) ask reads)
+read_line line.RenameFolder parts pairs d ask reads = absurd (never_write (λ (display : FolderDisplay). RenameFolder reads.0 display.text) (ReadsRename d) ask reads.2)
+read_line line.DeleteNode parts pairs d ask reads = absurd (never_write (λ _. DeleteNode reads.0) (ReadsNothing d) ask reads.2)
+read_line line.UndeleteNode parts pairs d ask reads = absurd (never_write (λ _. UndeleteNode reads.0) (ReadsNothing d) ask reads.2)
 
 pub write_line : (line : Line) (parts : List (List ℕ)) (pairs : List (List ℕ × List ℕ)) (d : Data) (command : Command) → ReadsLine line parts pairs d (Ok (Write command)) → reads_at line ≡ false
 write_line line.TestPermissions parts pairs d command reads = absurd (never_read (λ permissions. Test reads.0 permissions) (ReadsTest d) command reads.2)
@@ -60,3 +67,6 @@ write_line line.ListFolders parts pairs d command reads = absurd (never_read (λ
 write_line line.ListProjects parts pairs d command reads = absurd (never_read (λ _. Projects reads.0) (ReadsNothing d) command reads.2)
 write_line line.CreateFolder parts pairs d command reads = refl
 write_line line.CreateProject parts pairs d command reads = refl
+write_line line.RenameFolder parts pairs d command reads = refl
+write_line line.DeleteNode parts pairs d command reads = refl
+write_line line.UndeleteNode parts pairs d command reads = refl

@@ -27,7 +27,7 @@ use Rattle.iam_model.specs.Refusals.{refused_if}
 use Rattle.iam_model.specs.Shared.{is_version}
 use Rattle.iam_law.specs.Asked.{permission_at}
 use Rattle.iam_answer.specs.Asking.{allowed_of, first_unknown, may_not, unless}
-use Rattle.iam_answer.specs.NodeAnswers.{creation_shown, folders_answer, node_answer, projects_answer}
+use Rattle.iam_answer.specs.NodeAnswers.{change_shown, creation_shown, folders_answer, node_answer, projects_answer}
 
 -- the answer at the node of the name, else that there is none
 abbrev pub at_node : Tables → NodeName → (NodeId → Answer) → Answer
@@ -87,16 +87,20 @@ answer_of tables (Troubleshoot asker node permission resource at) caller moment 
 abbrev pub policy_written : Tables → NodeName → Answer
 policy_written tables name = option_map_or (policy_shown tables) (resolve tables name) nothing_shown
 
--- What an accepted change is answered, from the tables before it and those after it: what it makes is shown as it stands after it, and what it
--- takes away as it stood before.
+-- the change of the node, where the node is there
+abbrev pub node_written : Tables → NodeName → Answer
+node_written tables name = option_map_or (change_shown tables) (resolve tables name) nothing_shown
+
+-- What an accepted change is answered, from the tables before it and those after it: what it makes or changes is shown as it stands after it, a
+-- deleted node too, and what it takes away as it stood before.
 unfoldable pub written_answer : Tables → Tables → Command → Answer
 written_answer before later (SetAllow name version etag bindings) = policy_written later name
 written_answer before later (CreateFolder parent display) = creation_shown kind.Folder later
-written_answer before later (RenameFolder node display) = nothing_shown
+written_answer before later (RenameFolder node display) = node_written later node
 written_answer before later (CreateProject project parent display) = creation_shown kind.Project later
 written_answer before later (Move node to) = nothing_shown
-written_answer before later (DeleteNode node) = nothing_shown
-written_answer before later (UndeleteNode node) = nothing_shown
+written_answer before later (DeleteNode node) = node_written later node
+written_answer before later (UndeleteNode node) = node_written later node
 written_answer before later (CreateTagKey parent short) = nothing_shown
 written_answer before later (DeleteTagKey number) = nothing_shown
 written_answer before later (CreateTagValue key short) = nothing_shown

@@ -55,12 +55,15 @@ abbrev pub projects_answer : Tables → NodeId → Caller → Moment → Answer
 projects_answer tables parent caller moment =
     unless (may_not tables parent caller moment (permission_at kind.Project (codes "list")) ∷ []) (answer.Projects (children_of tables.nodes kind.Project parent))
 
--- ---- what was made
+-- ---- what was made or changed
+
+-- the node as it stands, and the operation that led there, which is the last change
+abbrev pub change_shown : Tables → NodeId → Answer
+change_shown tables node = answer.Operation tables.org.changes (resource_at tables node)
 
 -- the node that was made last: its number stands just below the next one
 abbrev pub made_last : NodeKind → Tables → NodeId
 made_last kind tables = record { kind = kind; number = tables.org.next - 1 }
 
--- the operation that made it, which is the last change
 abbrev pub creation_shown : NodeKind → Tables → Answer
-creation_shown kind tables = answer.Operation tables.org.changes (resource_at tables (made_last kind tables))
+creation_shown kind tables = change_shown tables (made_last kind tables)

@@ -1,9 +1,9 @@
 // What changes are answered.
 ghost use Rattle.std.specs.Prelude.{◌≡◌, IfOk};
 ghost use Rattle.iam_types.specs.declared.tables.Tables.{Tables};
-ghost use Rattle.iam_answer.specs.Answer.{policy_written, written_answer};
+ghost use Rattle.iam_answer.specs.Answer.{node_written, policy_written, written_answer};
 
-use crate::nodes::creation_shown;
+use crate::nodes::{change_shown, creation_shown};
 use crate::policies::policy_shown;
 use iam_judge::Index;
 use iam_names::{NodeKind, NodeName};
@@ -21,6 +21,15 @@ fn policy_written(alloc: Global, index: &Index, node: &NodeName) -> Result<Answe
     }
 }
 
+fn node_written(index: &Index, node: &NodeName) -> Result<Answer, OutOfMemory>
+    ensures { IfOk result (λ answer. answer ≡ node_written index.now node.now) }
+{
+    match resolve(index.tables(), node) {
+        Some(id) => change_shown(index.tables(), id),
+        None => Ok(Answer::Resource(Resource::Nothing)),
+    }
+}
+
 /// What an accepted change is answered, where the index holds the state after it. None that can be given yet shows what
 /// stood before it.
 #[tactic(auto, unfolding(crate::specs::Answer::written_answer))]
@@ -31,10 +40,10 @@ pub fn written(alloc: Global, index: &Index, command: &Command) -> Result<Answer
         Command::SetAllow { node, .. } => policy_written(alloc, index, node),
         Command::CreateFolder { .. } => creation_shown(NodeKind::Folder, index.tables()),
         Command::CreateProject { .. } => creation_shown(NodeKind::Project, index.tables()),
-        Command::RenameFolder { .. }
-        | Command::Move { .. }
-        | Command::DeleteNode { .. }
-        | Command::UndeleteNode { .. }
+        Command::RenameFolder { node, .. } => node_written(index, node),
+        Command::DeleteNode { node } => node_written(index, node),
+        Command::UndeleteNode { node } => node_written(index, node),
+        Command::Move { .. }
         | Command::CreateTagKey { .. }
         | Command::DeleteTagKey { .. }
         | Command::CreateTagValue { .. }

@@ -1,4 +1,4 @@
-// The reading of a node, and the listing of what stands under it.
+// The reading of a node, the listing of what stands under it, and what is shown of its changes.
 ghost use Rattle.std.specs.Prelude.{◌≡◌, IfOk, IsTrue, codes};
 ghost use Rattle.std.specs.Option.{option_copied};
 ghost use Rattle.iam_model.specs.Nodes.{exists};
@@ -107,6 +107,16 @@ pub fn projects(
     Ok(Answer::Projects(children_of(alloc, index.tables(), NodeKind::Project, parent)?))
 }
 
+/// What an accepted change of a node is answered, where the tables are those after it.
+pub fn change_shown(tables: &Tables, node: NodeId) -> Result<Answer, OutOfMemory>
+    ensures { IfOk result (λ answer. answer ≡ node_spec.change_shown tables.now node) }
+{
+    Ok(Answer::Operation {
+        revision: tables.org.changes,
+        response: resource_at(tables, node)?,
+    })
+}
+
 /// What an accepted change that made a node is answered, where the tables are those after it.
 pub fn creation_shown(kind: NodeKind, tables: &Tables) -> Result<Answer, OutOfMemory>
     ensures { IfOk result (λ answer. answer ≡ node_spec.creation_shown kind tables.now) }
@@ -115,8 +125,5 @@ pub fn creation_shown(kind: NodeKind, tables: &Tables) -> Result<Answer, OutOfMe
         kind,
         number: tables.org.next.saturating_sub(1),
     };
-    Ok(Answer::Operation {
-        revision: tables.org.changes,
-        response: resource_at(tables, made)?,
-    })
+    change_shown(tables, made)
 }

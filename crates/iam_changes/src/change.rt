@@ -4,6 +4,7 @@ ghost use Rattle.iam_model.specs.Commands.{IsEntry, after, fits};
 ghost use Rattle.iam_model.specs.Consistent.{Consistent};
 
 use crate::allow::set_allow;
+use crate::node_changes::{delete_node, rename_folder, undelete_node};
 use crate::nodes::{create_folder, create_project};
 use iam_model::{changes_are_countable, changes_keep_consistent};
 use iam_text::OutOfMemory;
@@ -24,10 +25,10 @@ fn apply_command(tables: &mut Tables, alloc: Global, entry: &Entry) -> Result<()
             parent,
             display,
         } => create_project(tables, alloc, project, parent, display),
-        Command::RenameFolder { .. }
-        | Command::Move { .. }
-        | Command::DeleteNode { .. }
-        | Command::UndeleteNode { .. }
+        Command::RenameFolder { node, display } => rename_folder(tables, alloc, node, display),
+        Command::DeleteNode { node } => delete_node(tables, node),
+        Command::UndeleteNode { node } => undelete_node(tables, node),
+        Command::Move { .. }
         | Command::CreateTagKey { .. }
         | Command::DeleteTagKey { .. }
         | Command::CreateTagValue { .. }

@@ -3,6 +3,7 @@
 
 mod allow;
 mod change;
+mod node_changes;
 mod nodes;
 
 pub use change::apply;

@@ -1,6 +1,5 @@
 -- Each body has one answer.
 use Rattle.std.proofs.Common.{◌≡◌, ℕ, List, Option, Some, None, Result, Ok, Err, refl, sym, ap, ◌∙◌, subst, codes, option_map}
-use Rattle.std.specs.Prelude.{⊤}
 use Rattle.serde_json.specs.Data.{Data}
 use Rattle.iam_names.specs.Permission.{IsPermission, permission_text}
 use Rattle.iam_names.specs.Display.{IsFolderDisplay, IsProjectDisplay}
@@ -9,15 +8,15 @@ use Rattle.iam_names.specs.declared.node.NodeName.{NodeName}
 use Rattle.iam_names.proofs.Told.{node_told, permission_told}
 use Rattle.iam_types.specs.declared.allow.Binding.{Binding}
 use Rattle.iam_types.specs.declared.ask.Ask.TheVariants.{Test, Policy, Node, Folders, Projects}
-use Rattle.iam_types.specs.declared.command.Command.TheVariants.{SetAllow, CreateFolder, CreateProject}
+use Rattle.iam_types.specs.declared.command.Command.TheVariants.{SetAllow, CreateFolder, RenameFolder, CreateProject, DeleteNode, UndeleteNode}
 use Rattle.iam_json_data.specs.Etag.{etag_text_of}
-use Rattle.iam_json_data.specs.Reading.{Then, ReadsText, ReadsNumber, ReadsMember, ReadsRequired, present}
+use Rattle.iam_json_data.specs.Reading.{Then, ReadsNumber, ReadsMember, ReadsRequired, present}
 use Rattle.iam_json_data.specs.Readers.{ReadsBinding}
 use Rattle.iam_json_data.proofs.Etags.{etag_told}
 use Rattle.iam_json_data.proofs.One.{IsOne, then_one, text_one, number_one, list_one, member_one, required_one, object_one, binding_one}
 use Rattle.iam_json.specs.Bodies.{Made, ReadsEtag, ReadsNoItems, ReadsVersion, ReadsTest, ReadsOptions, version_of, ReadsReading, ReadsBindings, ReadsPolicy, ReadsSetting}
-use Rattle.iam_json.specs.Calls.{NamesNode, AtMostOneCall}
-use Rattle.iam_json.specs.NodeBodies.{ReadsNothing, ReadsFolderDisplay, ReadsProjectDisplay, ReadsProjectId, ReadsParent, ReadsNewFolder, display_or, ReadsNewProject}
+use Rattle.iam_json.specs.Calls.{NamesNode, NamesFolder, NamesChild, AtMostOneCall}
+use Rattle.iam_json.specs.NodeBodies.{ReadsNothing, ReadsFolderDisplay, ReadsFolderName, ReadsProjectDisplay, ReadsProjectId, ReadsParent, ReadsNewFolder, ReadsRename, display_or, ReadsNewProject}
 use Rattle.iam_json.specs.Query.{parameter_at, NamesNodeIn, ReadsNodeAt}
 use Rattle.iam_json.specs.declared.call.Call.{Call}
 use Rattle.iam_json.specs.declared.call.Call.TheVariants.{Write, Read}
@@ -101,7 +100,7 @@ policy_one d = object_one policy_members policy_members_one d
 setting_one : (d : Data) → IsOne (ReadsSetting d)
 setting_one d = object_one _ (λ e. required_one ReadsPolicy policy_one (codes "policy") (present (codes "policy") e)) d
 
--- ---- the bodies that make nodes
+-- ---- the bodies that make nodes and rename them
 
 nothing_one : (d : Data) → IsOne (ReadsNothing d)
 nothing_one d = object_one (λ e said. said ≡ Ok tt) (λ e said other h g. h ∙ sym g) d
@@ -115,6 +114,12 @@ project_display_one d = text_one (λ (display : ProjectDisplay). IsProjectDispla
 id_one : (d : Data) → IsOne (ReadsProjectId d)
 id_one d = text_one (λ (id : GivenId). IsProjectId id.text) (λ id. id.text) (λ a b f g same. ap (λ (t : List ℕ). record { text = t }) same) d
 
+folder_name_one : (d : Data) → IsOne (ReadsFolderName d)
+folder_name_one d = required_one ReadsFolderDisplay folder_display_one (codes "displayName") (present (codes "displayName") d)
+
+rename_one : (d : Data) → IsOne (ReadsRename d)
+rename_one d = object_one ReadsFolderName folder_name_one d
+
 parent_one : (d : Data) → IsOne (ReadsParent d)
 parent_one d = required_one _ (text_one IsNodeName node_text node_told) (codes "parent") (present (codes "parent") d)
 
@@ -122,15 +127,14 @@ abbrev folder_of : NodeName → FolderDisplay → NewFolder
 folder_of parent display = record { parent = parent; display = display.text }
 
 abbrev after_parent : Data → NodeName → Result NewFolder (List ℕ) → Type 0
-after_parent d parent = Made (folder_of parent) (ReadsRequired ReadsFolderDisplay (codes "displayName") (present (codes "displayName") d))
+after_parent d parent = Made (folder_of parent) (ReadsFolderName d)
 
 abbrev folder_members : Data → Result NewFolder (List ℕ) → Type 0
 folder_members d = Then (ReadsParent d) (after_parent d)
 
 folder_members_one : (d : Data) → IsOne (folder_members d)
 folder_members_one d =
-    then_one _ (after_parent d) (parent_one d) (λ parent.
-    made_one (folder_of parent) _ (required_one ReadsFolderDisplay folder_display_one (codes "displayName") (present (codes "displayName") d)))
+    then_one _ (after_parent d) (parent_one d) (λ parent. made_one (folder_of parent) _ (folder_name_one d))
 
 new_folder_one : (d : Data) → IsOne (ReadsNewFolder d)
 new_folder_one d = object_one folder_members folder_members_one d
@@ -180,13 +184,19 @@ same_node parts node other named also =
     let texts : node_text node ≡ node_text other = cc both in
     node_told node other named.0 also.0 texts
 
--- a call on a node is one where it is one for each node
+-- a call on a node of a kind is one where it is one for each node
+on_one : (parts : List (List ℕ)) (names : NodeName → Type 0) (reads : NodeName → Result Call (List ℕ) → Type 0) → ((node : NodeName) → names node → NamesNode parts node) → ((node : NodeName) → IsOne (reads node)) → IsOne (λ said. (node : NodeName) × names node × reads node said)
+on_one parts names reads named one said other h g =
+    one g.0 said other (subst (λ (n : NodeName). reads n said) (same_node parts h.0 g.0 (named h.0 h.1) (named g.0 g.1)) h.2) g.2
+
 on_node_one : (parts : List (List ℕ)) (reads : NodeName → Result Call (List ℕ) → Type 0) → ((node : NodeName) → IsOne (reads node)) → IsOne (λ said. (node : NodeName) × NamesNode parts node × reads node said)
-on_node_one parts reads one said other h g =
-    one g.0 said other (subst (λ (n : NodeName). reads n said) (same_node parts h.0 g.0 h.1 g.1) h.2) g.2
+on_node_one parts reads = on_one parts (NamesNode parts) reads (λ node named. named)
 
 abbrev folder_call : NewFolder → Call
 folder_call folder = Write (CreateFolder folder.parent folder.display)
+
+abbrev rename_call : NodeName → FolderDisplay → Call
+rename_call node display = Write (RenameFolder node display.text)
 
 abbrev project_call : NewProject → Call
 project_call new = Write (CreateProject new.project new.parent new.display)
@@ -212,3 +222,9 @@ line_one line.ListFolders parts pairs d = listing_one (λ parent. Read (Folders 
 line_one line.ListProjects parts pairs d = listing_one (λ parent. Read (Projects parent)) pairs d
 line_one line.CreateFolder parts pairs d = made_one folder_call (ReadsNewFolder d) (new_folder_one d)
 line_one line.CreateProject parts pairs d = made_one project_call (ReadsNewProject d) (new_project_one d)
+line_one line.RenameFolder parts pairs d =
+    on_one parts (NamesFolder parts) (λ node. Made (rename_call node) (ReadsRename d)) (λ node named. named.0) (λ node. made_one (rename_call node) (ReadsRename d) (rename_one d))
+line_one line.DeleteNode parts pairs d =
+    on_one parts (NamesChild parts) (λ node. Made (λ _. Write (DeleteNode node)) (ReadsNothing d)) (λ node named. named.0) (λ node. made_one (λ _. Write (DeleteNode node)) (ReadsNothing d) (nothing_one d))
+line_one line.UndeleteNode parts pairs d =
+    on_one parts (NamesChild parts) (λ node. Made (λ _. Write (UndeleteNode node)) (ReadsNothing d)) (λ node named. named.0) (λ node. made_one (λ _. Write (UndeleteNode node)) (ReadsNothing d) (nothing_one d))

@@ -1,4 +1,4 @@
--- The bodies that make folders and projects, and those of which nothing is read.
+-- The bodies that make folders and projects and rename folders, and those of which nothing is read.
 use Rattle.std.specs.Prelude.{◌≡◌, ⊤, ℕ, List, Option, Some, None, Result, Ok, codes}
 use Rattle.serde_json.specs.Data.{Data}
 use Rattle.iam_names.specs.Display.{IsFolderDisplay, IsProjectDisplay}
@@ -22,6 +22,10 @@ ReadsNothing = ReadsObject (λ d said. said ≡ Ok tt)
 abbrev pub ReadsFolderDisplay : Data → Result FolderDisplay (List ℕ) → Type 0
 ReadsFolderDisplay = ReadsText (λ display. IsFolderDisplay display.text) (λ display. display.text)
 
+-- the display name of a folder, which has to be there
+abbrev pub ReadsFolderName : Data → Result FolderDisplay (List ℕ) → Type 0
+ReadsFolderName d = ReadsRequired ReadsFolderDisplay (codes "displayName") (present (codes "displayName") d)
+
 abbrev pub ReadsProjectDisplay : Data → Result ProjectDisplay (List ℕ) → Type 0
 ReadsProjectDisplay = ReadsText (λ display. IsProjectDisplay display.text) (λ display. display.text)
 
@@ -38,8 +42,11 @@ ReadsParent d = ReadsRequired (ReadsText IsNodeName node_text) (codes "parent") 
 abbrev pub ReadsNewFolder : Data → Result NewFolder (List ℕ) → Type 0
 ReadsNewFolder = ReadsObject (λ d.
     Then (ReadsParent d) (λ parent.
-    Made (λ display. record { parent = parent; display = display.text })
-    (ReadsRequired ReadsFolderDisplay (codes "displayName") (present (codes "displayName") d))))
+    Made (λ display. record { parent = parent; display = display.text }) (ReadsFolderName d)))
+
+-- the new display name
+abbrev pub ReadsRename : Data → Result FolderDisplay (List ℕ) → Type 0
+ReadsRename = ReadsObject ReadsFolderName
 
 -- a project without a display name is shown by its id
 abbrev pub display_or : List ℕ → Option ProjectDisplay → List ℕ

@@ -8,7 +8,8 @@ ghost use Rattle.iam_json.specs.Bodies.{ReadsTest};
 ghost use Rattle.iam_json.specs.Calls.{IsRoute, NamesNode, ReadsPermissionsTest, ReadsPolicyReading, ReadsPolicySetting, ReadsCall};
 
 use crate::node_calls::{
-    folder_creation, folder_listing, node_reading, project_creation, project_listing,
+    folder_creation, folder_listing, folder_renaming, node_deletion, node_reading, node_undeletion,
+    project_creation, project_listing,
 };
 use crate::policy::{read_reading, read_setting};
 use crate::route::{Line, Route};
@@ -97,6 +98,9 @@ fn call_of(alloc: Global, route: &Route, value: &Value) -> Result<Call, BodyStop
         Line::ListProjects => project_listing(alloc, pairs, value),
         Line::CreateFolder => folder_creation(alloc, value),
         Line::CreateProject => project_creation(alloc, value),
+        Line::RenameFolder => folder_renaming(alloc, parts, value),
+        Line::DeleteNode => node_deletion(alloc, parts, value),
+        Line::UndeleteNode => node_undeletion(alloc, parts, value),
     }
 }
 

@@ -2,7 +2,7 @@
 ghost use Rattle.std.specs.Prelude.{◌≡◌, IfOk};
 ghost use Rattle.serde_json.specs.View.{view};
 ghost use Rattle.iam_json_data.specs.Reading.{Gives};
-ghost use Rattle.iam_json.specs.NodeBodies.{ReadsNothing, ReadsParent, ReadsNewFolder, ReadsNewProject, display_or};
+ghost use Rattle.iam_json.specs.NodeBodies.{ReadsNothing, ReadsFolderName, ReadsParent, ReadsNewFolder, ReadsRename, ReadsNewProject, display_or};
 
 use iam_json_data::{BodyStop, FromJson, bad_here, read_member, read_required};
 use iam_names::{NodeName, is_folder_display, is_project_display, is_project_id};
@@ -116,6 +116,12 @@ fn read_parent(alloc: Global, value: &Value) -> Result<NodeName, BodyStop>
     read_required(alloc, "parent", value)
 }
 
+fn read_folder_name(alloc: Global, value: &Value) -> Result<FolderDisplay, BodyStop>
+    ensures { Gives (ReadsFolderName (view value.now)) result }
+{
+    read_required(alloc, "displayName", value)
+}
+
 /// The folder that is to be made.
 pub fn read_new_folder(alloc: Global, value: &Value) -> Result<NewFolder, BodyStop>
     ensures { Gives (ReadsNewFolder (view value.now)) result }
@@ -124,11 +130,21 @@ pub fn read_new_folder(alloc: Global, value: &Value) -> Result<NewFolder, BodySt
         return Err(bad_here(alloc));
     }
     let parent = read_parent(alloc, value)?;
-    let display: FolderDisplay = read_required(alloc, "displayName", value)?;
+    let display = read_folder_name(alloc, value)?;
     Ok(NewFolder {
         parent,
         display: display.text,
     })
+}
+
+/// The new display name of a folder.
+pub fn read_rename(alloc: Global, value: &Value) -> Result<FolderDisplay, BodyStop>
+    ensures { Gives (ReadsRename (view value.now)) result }
+{
+    if !value.is_object() {
+        return Err(bad_here(alloc));
+    }
+    read_folder_name(alloc, value)
 }
 
 // The display name of a project, which is its id where none is given.

@@ -20,6 +20,12 @@ pub enum Line {
     CreateFolder,
     /// `POST /v3/projects`.
     CreateProject,
+    /// `PATCH /v3/folders/N`.
+    RenameFolder,
+    /// `DELETE /v3/{node}`, of a folder or a project.
+    DeleteNode,
+    /// `POST /v3/{node}:undelete`, of a folder or a project.
+    UndeleteNode,
 }
 
 /// A line of the route table, with the decoded parameters of the path and those of the query, names and values.

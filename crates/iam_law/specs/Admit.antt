@@ -1,5 +1,5 @@
 -- Which entries are refused, and why.
-use Rattle.std.specs.Prelude.{List, [], ◌∷◌, codes}
+use Rattle.std.specs.Prelude.{ℕ, List, [], ◌∷◌, codes}
 use Rattle.std.specs.declared.option.Option.{Option}
 use Rattle.iam_text.specs.declared.moment.Moment.{Moment}
 use Rattle.iam_names.specs.declared.caller.Caller.{Caller}
@@ -11,13 +11,15 @@ use Rattle.iam_types.specs.declared.allow.Binding.{Binding}
 use Rattle.iam_types.specs.declared.command.Command.{Command}
 use Rattle.iam_types.specs.declared.command.Command.TheVariants.{SetAllow, CreateFolder, RenameFolder, CreateProject, Move, DeleteNode, UndeleteNode, CreateTagKey, DeleteTagKey, CreateTagValue, DeleteTagValue, BindTag, UnbindTag, CreateGroup, DeleteGroup, AddMember, RemoveMember, CreateRole, UpdateRole, DeleteRole, UndeleteRole, CreateDeny, UpdateDeny, DeleteDeny, CreateBoundary, UpdateBoundary, DeleteBoundary, CreateBound, DeleteBound}
 use Rattle.iam_types.specs.declared.command.Entry.{Entry}
+use Rattle.iam_types.specs.declared.node.Node.{Node}
 use Rattle.iam_types.specs.declared.query.Query.{Query}
 use Rattle.iam_types.specs.declared.refusal.Refusal.{Refusal}
 use Rattle.iam_types.specs.declared.tables.Tables.{Tables}
 use Rattle.iam_model.specs.Commands.{rules_of}
+use Rattle.iam_model.specs.Nodes.{kind_named}
 use Rattle.iam_model.specs.Policies.{bindings_at}
 use Rattle.iam_model.specs.Refusals.{Asked, first_refusal, nothing_asked}
-use Rattle.iam_model.specs.Shared.{with_node}
+use Rattle.iam_model.specs.Shared.{with_node, with_row}
 use Rattle.iam_law.specs.Asked.{forbidden, permission_at, query_on}
 use Rattle.iam_law.specs.Modified.{modified_roles}
 
@@ -49,15 +51,26 @@ asked_of_creation tables caller moment kind name = record {
   operators = [];
 }
 
+-- whether the caller has the permission for a verb on a folder or a project, which is one of the name's collection
+abbrev pub change_query : Caller → Moment → NodeName → List ℕ → Node → Query
+change_query caller moment name verb node = query_on caller moment [] (permission_at (kind_named name) verb) node.id
+
+abbrev pub asked_of_change : Tables → Caller → Moment → NodeName → List ℕ → Asked
+asked_of_change tables caller moment name verb = record {
+  permission = with_row tables name (λ node. forbidden tables (change_query caller moment name verb node) ∷ []);
+  conditions = [];
+  operators = [];
+}
+
 -- what the decision and the conditions refuse of a command
 abbrev pub asked_by : Tables → Caller → Moment → Command → Asked
 asked_by tables caller moment (SetAllow node version etag bindings) = asked_of_set_allow tables caller moment node bindings
 asked_by tables caller moment (CreateFolder parent display) = asked_of_creation tables caller moment Folder parent
-asked_by tables caller moment (RenameFolder node display) = nothing_asked
+asked_by tables caller moment (RenameFolder node display) = asked_of_change tables caller moment node (codes "update")
 asked_by tables caller moment (CreateProject project parent display) = asked_of_creation tables caller moment Project parent
 asked_by tables caller moment (Move node to) = nothing_asked
-asked_by tables caller moment (DeleteNode node) = nothing_asked
-asked_by tables caller moment (UndeleteNode node) = nothing_asked
+asked_by tables caller moment (DeleteNode node) = asked_of_change tables caller moment node (codes "delete")
+asked_by tables caller moment (UndeleteNode node) = asked_of_change tables caller moment node (codes "undelete")
 asked_by tables caller moment (CreateTagKey parent short) = nothing_asked
 asked_by tables caller moment (DeleteTagKey number) = nothing_asked
 asked_by tables caller moment (CreateTagValue key short) = nothing_asked

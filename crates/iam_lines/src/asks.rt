@@ -111,42 +111,46 @@ enum Want<'a> {
         etag: Option<u64>,
         bindings: &'a List<Binding>,
     },
-    Itself,
-    Folders,
-    Projects,
-    NewFolder(&'a Text),
+    /// What is done with the node, which needs nothing more.
+    Plain(&'static str),
+    /// What is done with it, and the display name that it needs.
+    Display(&'static str, &'a Text),
     NewProject {
         project: &'a Text,
         display: &'a Text,
     },
 }
 
-// A function of its own, so that the kinds of calls are gone through once.
-fn want_of(call: &Call) -> Option<(&NodeName, Want<'_>)> {
-    match call {
-        Call::Read(Ask::Test { node, permissions }) => Some((node, Want::Test(permissions))),
-        Call::Read(Ask::Policy { node, version }) => Some((node, Want::Policy(*version))),
-        Call::Read(Ask::Node { node }) => Some((node, Want::Itself)),
-        Call::Read(Ask::Folders { parent }) => Some((parent, Want::Folders)),
-        Call::Read(Ask::Projects { parent }) => Some((parent, Want::Projects)),
-        Call::Write(Command::CreateFolder { parent, display }) => {
-            Some((parent, Want::NewFolder(display)))
+fn want_of_ask(ask: &Ask) -> Option<(&NodeName, Want<'_>)> {
+    match ask {
+        Ask::Test { node, permissions } => Some((node, Want::Test(permissions))),
+        Ask::Policy { node, version } => Some((node, Want::Policy(*version))),
+        Ask::Node { node } => Some((node, Want::Plain("looks at"))),
+        Ask::Folders { parent } => Some((parent, Want::Plain("lists the folders of"))),
+        Ask::Projects { parent } => Some((parent, Want::Plain("lists the projects of"))),
+        _ => None,
+    }
+}
+
+fn want_of_command(command: &Command) -> Option<(&NodeName, Want<'_>)> {
+    match command {
+        Command::CreateFolder { parent, display } => {
+            Some((parent, Want::Display("makes a folder in", display)))
         }
-        Call::Write(
-            Command::CreateProject {
-                project,
-                parent,
-                display,
-            },
-        ) => Some((parent, Want::NewProject { project, display })),
-        Call::Write(
-            Command::SetAllow {
-                node,
-                version,
-                etag,
-                bindings,
-            },
-        ) => Some((
+        Command::RenameFolder { node, display } => Some((node, Want::Display("renames", display))),
+        Command::DeleteNode { node } => Some((node, Want::Plain("deletes"))),
+        Command::UndeleteNode { node } => Some((node, Want::Plain("undeletes"))),
+        Command::CreateProject {
+            project,
+            parent,
+            display,
+        } => Some((parent, Want::NewProject { project, display })),
+        Command::SetAllow {
+            node,
+            version,
+            etag,
+            bindings,
+        } => Some((
             node,
             Want::Setting {
                 version: *version,
@@ -155,6 +159,14 @@ fn want_of(call: &Call) -> Option<(&NodeName, Want<'_>)> {
             },
         )),
         _ => None,
+    }
+}
+
+// A function of its own, so that the kinds of calls are gone through once.
+fn want_of(call: &Call) -> Option<(&NodeName, Want<'_>)> {
+    match call {
+        Call::Read(ask) => want_of_ask(ask),
+        Call::Write(command) => want_of_command(command),
     }
 }
 
@@ -191,12 +203,10 @@ fn push_want(
             let given = policy(bindings.clone()?, etag, version);
             push_given(alloc, setting(etag), node, given, out)?;
         }
-        Want::Itself => write!(out, "looks at {node}")?,
-        Want::Folders => write!(out, "lists the folders of {node}")?,
-        Want::Projects => write!(out, "lists the projects of {node}")?,
-        Want::NewFolder(display) => {
+        Want::Plain(wanted) => write!(out, "{wanted} {node}")?,
+        Want::Display(wanted, display) => {
             let display = display.as_str();
-            write!(out, "makes a folder in {node} {display}")?;
+            write!(out, "{wanted} {node} {display}")?;
         }
         Want::NewProject { project, display } => push_project(node, project, display, out)?,
     }

@@ -46,6 +46,10 @@ fn thing(alloc: Global, name: &str) -> Result<Answer, OutOfMemory> {
             revision: 12,
             response: Resource::Node(node(alloc, NodeKind::Folder, true)?),
         },
+        "gone-project" => Answer::Operation {
+            revision: 12,
+            response: Resource::Node(node(alloc, NodeKind::Project, false)?),
+        },
         "made-nothing" => Answer::Operation {
             revision: 12,
             response: Resource::Nothing,

@@ -28,7 +28,7 @@ use Rattle.iam_model.proofs.Lists.{nodes_formed, org_formed}
 use Rattle.iam_model.proofs.Sameness.{same_node-itself, same_node-true}
 
 -- the node of a row exists
-row_exists : (tables : Tables) (row : Node) → Contains tables.nodes row → exists tables row.id ≡ true
+pub row_exists : (tables : Tables) (row : Node) → Contains tables.nodes row → exists tables row.id ≡ true
 row_exists tables row there =
     or_right (same_node row.id (organization_of tables)) (is_some (node_at tables.nodes row.id)) (finds_some (λ (r : Node). same_node r.id row.id) tables.nodes row there (same_node-itself row.id))
 

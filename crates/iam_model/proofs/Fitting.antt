@@ -1,5 +1,5 @@
 -- Rules among rules, and what a command that fits owes.
-use Rattle.std.proofs.Common.{◌≡◌, ℕ, suc, ◌+◌, ◌<◌, ◌≤◌, Bool, true, false, cond, List, [], ◌∷◌, Some, None, refl, ap, subst, arith}
+use Rattle.std.proofs.Common.{◌≡◌, ℕ, suc, ◌+◌, ◌<◌, ◌≤◌, Bool, true, false, cond, List, [], ◌∷◌, Some, None, refl, ap, subst, ◌∙◌, arith}
 use Rattle.std.specs.Prelude.{nat_lt}
 use Rattle.std.specs.declared.option.Option.{Option}
 use Rattle.std.specs.List.{All}
@@ -8,18 +8,25 @@ use Rattle.std.specs.declared.cmp.Ordering.TheVariants.{Equal}
 use Rattle.std.proofs.lemmas.Bool.{leb-false}
 use Rattle.iam_text.specs.Put.{put, IsInOrder}
 use Rattle.iam_types.specs.declared.fact.Fact.{Fact}
+use Rattle.iam_types.specs.declared.fact.Fact.TheVariants as fact
 use Rattle.iam_types.specs.declared.fact.FactChange.{FactChange}
+use Rattle.iam_types.specs.declared.fact.FactChange.TheVariants.{Put}
+use Rattle.iam_types.specs.declared.node.Node.{Node}
 use Rattle.iam_types.specs.declared.node.Org.{Org}
 use Rattle.iam_types.specs.declared.refusal.LimitName.{LimitName}
 use Rattle.iam_types.specs.declared.refusal.Refusal.TheVariants.{Limit}
 use Rattle.iam_types.specs.declared.tables.Tables.{Tables}
 use Rattle.iam_model.specs.Consistent.{Consistent, Keeps}
-use Rattle.iam_model.specs.Facts.{fact_order, facts_of, with_changes}
-use Rattle.iam_model.specs.Formed.{IsChange, IsFact}
+use Rattle.iam_model.specs.Facts.{fact_order, facts_of, sections_with, with_changes}
+use Rattle.iam_model.specs.Formed.{IsChange, IsFact, IsOrgFact}
 use Rattle.iam_model.specs.Limits.{beyond, limit_of}
 use Rattle.iam_model.specs.Part.{order_in}
-use Rattle.iam_model.specs.Parts.{org_part}
+use Rattle.iam_model.specs.Parts.{node_part, org_part}
 use Rattle.iam_model.specs.Refusals.{Asked, Rules, first_of, first_refusal, nothing_asked}
+use Rattle.iam_model.specs.Sections.{all_facts}
+use Rattle.iam_model.specs.Shared.{changed}
+use Rattle.iam_model.proofs.Lists.{org_formed}
+use Rattle.iam_model.proofs.Parts.{put_node, put_org}
 use Rattle.iam_model.proofs.Places.{changes_keep_formed, changes_keep_order}
 
 -- where there is no first, there is none
@@ -86,6 +93,22 @@ pub record Leads (tables : Tables) (changes : List FactChange) (next : Tables) :
 -- another organisation in the place of this one
 pub org_put : (org new : Org) → order_in org_part new org ≡ Equal → put (order_in org_part) new (org ∷ []) ≡ new ∷ []
 org_put org new tied = ap (λ o. match_ordering o (new ∷ org ∷ []) (new ∷ []) (org ∷ new ∷ [])) tied
+
+-- a node that is put, and the organisation in its place
+pub node_put : (tables : Tables) (node : Node) (org : Org) → order_in org_part org tables.org ≡ Equal
+    → with_changes (facts_of tables) (Put (fact.Node node) ∷ Put (fact.Org org) ∷ []) ≡ facts_of (record tables { org = org; nodes = put (order_in node_part) node tables.nodes })
+node_put tables node org tied =
+    let put_there : Tables = record tables { nodes = put (order_in node_part) node tables.nodes } in
+    ap (put fact_order (fact.Org org)) (put_node node (tables.org ∷ []) tables)
+    ∙ put_org org (tables.org ∷ []) put_there
+    ∙ ap (λ (orgs : List Org). all_facts (sections_with orgs put_there)) (org_put tables.org org tied)
+
+-- the organisation with one more change is well formed
+pub changed_formed : (tables : Tables) → Consistent tables → IsOrgFact (changed tables.org)
+changed_formed tables consistent =
+    let org : IsOrgFact tables.org = org_formed tables consistent in
+    let limit = consistent.keeps.limits.changes in
+    record { formed = record { number = org.formed.number; domain = org.formed.domain; customer = org.formed.customer }; next = org.next; changes = omega (arith, limit) }
 
 pub leads_consistent : (tables : Tables) (changes : List FactChange) (next : Tables) → Consistent tables → Leads tables changes next → Consistent next
 leads_consistent tables changes next consistent are = record {

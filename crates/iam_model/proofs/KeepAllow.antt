@@ -23,7 +23,7 @@ use Rattle.iam_types.specs.declared.tables.Tables.{Tables}
 use Rattle.iam_model.specs.Allow.{IsGiven, late_rules, middle_rules, policy_after, set_allow, set_changes, set_policy, unknown_role}
 use Rattle.iam_model.specs.Consistent.{Consistent, Keeps}
 use Rattle.iam_model.specs.Facts.{fact_order, facts_of, sections_with, with_changes}
-use Rattle.iam_model.specs.Formed.{IsChange, IsOrgFact, IsStored}
+use Rattle.iam_model.specs.Formed.{IsChange, IsStored}
 use Rattle.iam_model.specs.Limits.{limit_of}
 use Rattle.iam_model.specs.Nodes.{exists, resolve}
 use Rattle.iam_model.specs.Part.{order_in}
@@ -33,8 +33,7 @@ use Rattle.iam_model.specs.Refusals.{first_of, first_refusal, nothing_asked}
 use Rattle.iam_model.specs.Sections.{all_facts}
 use Rattle.iam_model.specs.Shared.{changed, missing}
 use Rattle.iam_model.proofs.Existing.{existing_formed, not_missing, resolved_exists}
-use Rattle.iam_model.proofs.Fitting.{Fine, Leads, fine, first_of-None, org_put, within_limit}
-use Rattle.iam_model.proofs.Lists.{org_formed}
+use Rattle.iam_model.proofs.Fitting.{Fine, Leads, changed_formed, fine, first_of-None, org_put, within_limit}
 use Rattle.iam_model.proofs.Parts.{put_allow, put_org}
 
 -- what is kept of the given bindings can be stored
@@ -133,15 +132,10 @@ set_leads tables node bindings =
 
 set_formed : (tables : Tables) (node : NodeId) (bindings : List Binding) → Consistent tables → exists tables node ≡ true → All IsGiven bindings → All IsChange (set_changes tables node bindings)
 set_formed tables node bindings consistent there given =
-    let org : IsOrgFact tables.org = org_formed tables consistent in
     let limit = consistent.keeps.limits.changes in
     All-cons IsChange (Put (fact.Allow (policy_after tables node bindings))) (Put (fact.Org (changed tables.org)) ∷ [])
     (record { node = existing_formed tables node consistent there; bindings = kept_stored bindings given; set = omega (arith, limit) })
-    (All-cons IsChange (Put (fact.Org (changed tables.org))) [] (record {
-      formed = record { number = org.formed.number; domain = org.formed.domain; customer = org.formed.customer };
-      next = org.next;
-      changes = omega (arith, limit);
-    }) (All-nil IsChange))
+    (All-cons IsChange (Put (fact.Org (changed tables.org))) [] (changed_formed tables consistent) (All-nil IsChange))
 
 -- what a fitting command leads to at a node that is there
 set_at : (tables : Tables) (node : NodeId) (bindings : List Binding) → Consistent tables → All IsGiven bindings → exists tables node ≡ true

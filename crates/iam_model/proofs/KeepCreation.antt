@@ -10,7 +10,6 @@ use Rattle.std.proofs.lemmas.Bool.{and_left, and_parts, and_right, both_ways, ca
 use Rattle.std.proofs.lemmas.Cmp.{nat_list_cmp_total, tied_itself}
 use Rattle.std.proofs.lemmas.List.Elements.{All-cons, All-contains, All-contains_itself, All-nil, All-weaker}
 use Rattle.std.proofs.lemmas.List.Folds.{list_any_none}
-use Rattle.iam_text.specs.Put.{put}
 use Rattle.iam_text.specs.declared.moment.Moment.{Moment}
 use Rattle.iam_names.specs.Display.{IsFolderDisplay, IsProjectDisplay}
 use Rattle.iam_names.specs.Node.{IsProjectId, node_text}
@@ -22,32 +21,28 @@ use Rattle.iam_types.specs.declared.allow.AllowPolicy.{AllowPolicy}
 use Rattle.iam_types.specs.declared.fact.Fact.TheVariants as fact
 use Rattle.iam_types.specs.declared.fact.FactChange.TheVariants.{Put}
 use Rattle.iam_types.specs.declared.node.Node.{Node}
-use Rattle.iam_types.specs.declared.node.Org.{Org}
 use Rattle.iam_types.specs.declared.refusal.Fault.TheVariants.{Parent, Depth, SiblingName}
 use Rattle.iam_types.specs.declared.refusal.LimitName.TheVariants.{ChildFolders, Nodes, Changes}
 use Rattle.iam_types.specs.declared.refusal.Refusal.TheVariants.{AlreadyExists, Hierarchy, NotActive}
 use Rattle.iam_types.specs.declared.tables.Tables.{Tables}
 use Rattle.iam_model.specs.Consistent.{Consistent, HierarchyStands, Keeps, NumbersFit}
 use Rattle.iam_model.specs.Creation.{added, added_changes, create_folder, create_project, late_folder_rules, late_project_rules, new_folder, new_node, new_project, numbered, taken_project_id, with_node_added}
-use Rattle.iam_model.specs.Facts.{fact_order, facts_of, sections_with, with_changes}
+use Rattle.iam_model.specs.Facts.{facts_of, with_changes}
 use Rattle.iam_model.specs.Formed.{IsChange, IsNodeFact, IsOrgFact}
 use Rattle.iam_model.specs.Hierarchy.{LeadsUp, are_different, are_namesakes, count_folders, deepest, is_alone, is_below_active, is_shallow, same_project_id, share_number, share_project_id}
 use Rattle.iam_model.specs.Limits.{limit_of}
 use Rattle.iam_model.specs.Nodes.{active_children, depth_below, exists, has_project_id, is_active, is_active_child, is_folder, is_project, project_with, resolve}
-use Rattle.iam_model.specs.Part.{order_in}
-use Rattle.iam_model.specs.Parts.{node_part, org_part}
+use Rattle.iam_model.specs.Parts.{org_part}
 use Rattle.iam_model.specs.Refusals.{first_of, first_refusal, nothing_asked}
 use Rattle.iam_model.specs.Same.{same_kind, same_node}
-use Rattle.iam_model.specs.Sections.{all_facts}
 use Rattle.iam_model.specs.Shared.{inactive, missing}
 use Rattle.iam_model.proofs.Added.{IsNew, active_old, alone_added, different_of, folder_of, exists_leads, exists_still, led_exists, leads_old, namesakes_back, numbers_back, projects_back, way_old}
 use Rattle.iam_model.proofs.Adding.{All-added, IsFree, any_added, count_added, free_place, length_added}
 use Rattle.iam_model.proofs.Climbing.{parent_leads}
 use Rattle.iam_model.proofs.Existing.{existing_formed, not_missing, not_refused, resolved_exists}
 use Rattle.iam_model.proofs.Finding.{All-both, All-of, filter-Contains, nothing_passes}
-use Rattle.iam_model.proofs.Fitting.{Fine, Leads, fine, first_of-None, org_put, within_limit}
+use Rattle.iam_model.proofs.Fitting.{Fine, Leads, fine, first_of-None, node_put, within_limit}
 use Rattle.iam_model.proofs.Lists.{nodes_formed, org_formed}
-use Rattle.iam_model.proofs.Parts.{put_node, put_org}
 use Rattle.iam_model.proofs.Placing.{Contains-here}
 use Rattle.iam_model.proofs.Sameness.{same_bytes-back, same_node-itself, same_node-true}
 
@@ -127,7 +122,7 @@ numbers_kept tables node consistent may =
 -- ---- limits
 
 -- no parent has too many folders
-folders_few : (tables : Tables) (parent : NodeId) → Consistent tables → count_folders tables.nodes parent ≤ limit_of ChildFolders
+pub folders_few : (tables : Tables) (parent : NodeId) → Consistent tables → count_folders tables.nodes parent ≤ limit_of ChildFolders
 folders_few tables parent consistent = go (active_children tables.nodes Folder parent) refl
   where
     go : (rows : List Node) → active_children tables.nodes Folder parent ≡ rows → count_folders tables.nodes parent ≤ limit_of ChildFolders
@@ -177,11 +172,7 @@ added_keeps tables node consistent may =
 
 added_leads : (tables : Tables) (node : Node) → with_changes (facts_of tables) (added_changes tables node) ≡ facts_of (with_node_added tables node)
 unfolding added
-added_leads tables node =
-    let put_there : Tables = record tables { nodes = put (order_in node_part) node tables.nodes } in
-    ap (put fact_order (fact.Org (numbered tables.org))) (put_node node (tables.org ∷ []) tables)
-    ∙ put_org (numbered tables.org) (tables.org ∷ []) put_there
-    ∙ ap (λ (orgs : List Org). all_facts (sections_with orgs put_there)) (org_put tables.org (numbered tables.org) (tied_itself nat_list_cmp_total (org_part.key tables.org)))
+added_leads tables node = node_put tables node (numbered tables.org) (tied_itself nat_list_cmp_total (org_part.key tables.org))
 
 -- the next number is one of a node
 next_formed : (tables : Tables) → Consistent tables → (1 ≤ tables.org.next) × (tables.org.next ≤ 9000000000000000000)

@@ -9,13 +9,16 @@ pub mod Fitting
 pub mod Given
 pub mod KeepAllow
 pub mod KeepCreation
+pub mod KeepNodeChanges
 pub mod Keeping
 pub mod Lists
 pub mod Opens
+pub mod Over
 pub mod Parted
 pub mod Parts
 pub mod Paths
 pub mod Places
 pub mod Placing
+pub mod Replaced
 pub mod Sameness
 pub mod Ways

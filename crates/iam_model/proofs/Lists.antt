@@ -2,8 +2,9 @@
 use Rattle.std.proofs.Common.{◌≡◌, inl, inr, false, ◌+◌, List, [], ◌∷◌, ◌++◌, map, length, Some, refl, sym, ap, subst, ◌∙◌, arith}
 use Rattle.std.specs.List.{All}
 use Rattle.std.specs.Ordering.{is_eq}
+use Rattle.std.specs.declared.cmp.Ordering.TheVariants.{Less}
 use Rattle.std.proofs.lemmas.List.Elements.{All-cons, All-head, All-tail, All-nil, All-weaker}
-use Rattle.iam_text.specs.Put.{put, placed}
+use Rattle.iam_text.specs.Put.{put, placed, IsInOrder}
 use Rattle.iam_types.specs.declared.allow.AllowPolicy.{AllowPolicy}
 use Rattle.iam_types.specs.declared.fact.Fact.{Fact}
 use Rattle.iam_types.specs.declared.fact.Fact.TheVariants as fact
@@ -105,10 +106,27 @@ rows_apart {A} p is (fact ∷ facts) apart = elim (is.own fact) [
       rw out (rows, rows_apart p is facts apart.1)
 ]
 
--- the nodes of consistent tables stand in places of their own
+-- facts in order have rows in order
+rows_ordered : {A : Type 0} (p : Part A) → IsPart A p → (facts : List Fact) → IsInOrder fact_order facts → IsInOrder (order_in p) (rows_in p facts)
+rows_ordered p is [] ordered = tt
+rows_ordered {A} p is (fact ∷ facts) ordered = elim (is.own fact) [
+  | inl none ↦ rw none (rows_ordered p is facts ordered.1)
+  | inr owned ↦
+      let out : p.out fact ≡ Some owned.0 = ap p.out owned.1 ∙ is.back owned.0 in
+      let others : All (λ (f : Fact). fact_order (p.wrap owned.0) f ≡ Less) facts = subst (λ (first : Fact). All (λ (f : Fact). fact_order first f ≡ Less) facts) owned.1 ordered.0 in
+      let rows : All (λ (other : A). order_in p owned.0 other ≡ Less) (rows_in p facts) =
+      All-weaker (λ (other : A). fact_order (p.wrap owned.0) (p.wrap other) ≡ Less) (λ (other : A). order_in p owned.0 other ≡ Less) (λ other less. sym (wrap_order p is owned.0 other) ∙ less) (rows_in p facts)
+      (rows_hold p is (λ (f : Fact). fact_order (p.wrap owned.0) f ≡ Less) facts others) in
+      rw out (rows, rows_ordered p is facts ordered.1)
+]
+
+-- the nodes of consistent tables stand in their order
+pub nodes_ordered : (t : Tables) → Consistent t → IsInOrder (order_in node_part) t.nodes
+nodes_ordered t consistent = subst (λ (rows : List Node). IsInOrder (order_in node_part) rows) (node_back (t.org ∷ []) t) (rows_ordered node_part is_node (facts_of t) consistent.ordered)
+
+-- so in places of their own
 pub nodes_apart : (t : Tables) → Consistent t → AreApartBy (order_in node_part) t.nodes
-nodes_apart t consistent =
-    subst (λ (rows : List Node). AreApartBy (order_in node_part) rows) (node_back (t.org ∷ []) t) (rows_apart node_part is_node (facts_of t) (ordered_apart fact_order (facts_of t) consistent.ordered))
+nodes_apart t consistent = ordered_apart (order_in node_part) t.nodes (nodes_ordered t consistent)
 
 -- rows apart that leave one in its place are this one
 only_row : {A : Type 0} (p : Part A) (rows : List A) (x : A) → AreApartBy (order_in p) rows → placed (order_in p) rows ≡ x ∷ [] → rows ≡ x ∷ []

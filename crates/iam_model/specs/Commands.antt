@@ -12,16 +12,17 @@ use Rattle.std.specs.Prelude.{List}
 use Rattle.iam_model.specs.Allow.{set_allow}
 use Rattle.iam_model.specs.Creation.{create_folder, create_project}
 use Rattle.iam_model.specs.Meaning.{Meaning, not_yet}
+use Rattle.iam_model.specs.NodeChanges.{rename_folder, delete_node, undelete_node}
 use Rattle.iam_model.specs.Refusals.{Rules, first_refusal, nothing_asked}
 
 abbrev pub meaning_of : Command → Meaning
 meaning_of (SetAllow node version etag bindings) = set_allow node version etag bindings
 meaning_of (CreateFolder parent display) = create_folder parent display
-meaning_of (RenameFolder node display) = not_yet
+meaning_of (RenameFolder node display) = rename_folder node display
 meaning_of (CreateProject project parent display) = create_project project parent display
 meaning_of (Move node to) = not_yet
-meaning_of (DeleteNode node) = not_yet
-meaning_of (UndeleteNode node) = not_yet
+meaning_of (DeleteNode node) = delete_node node
+meaning_of (UndeleteNode node) = undelete_node node
 meaning_of (CreateTagKey parent short) = not_yet
 meaning_of (DeleteTagKey number) = not_yet
 meaning_of (CreateTagValue key short) = not_yet

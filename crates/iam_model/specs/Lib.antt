@@ -10,6 +10,7 @@ pub mod Hierarchy
 pub mod Holds
 pub mod Limits
 pub mod Meaning
+pub mod NodeChanges
 pub mod Nodes
 pub mod Opening
 pub mod Part

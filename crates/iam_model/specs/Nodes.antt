@@ -2,7 +2,7 @@
 use Rattle.std.specs.Prelude.{ℕ, zero, suc, Bool, false, true, cond, ◌==◌, ◌&&◌, ◌||◌, List, [], ◌∷◌, Some, None, filter, is_some, length, reverse}
 use Rattle.std.specs.declared.option.Option.{Option}
 use Rattle.std.specs.declared.cmp.Ordering.{Ordering}
-use Rattle.std.specs.List.{find}
+use Rattle.std.specs.List.{find, list_any}
 use Rattle.std.specs.Option.{option_map, option_map_or}
 use Rattle.std.specs.Ordering.{nat_cmp}
 use Rattle.std.specs.Str.{bytes_eq}
@@ -57,6 +57,20 @@ resolve tables (Folder number) = found_node (node_at tables.nodes (record { kind
 resolve tables (ProjectNumber number) = found_node (node_at tables.nodes (record { kind = AProject; number = number }))
 resolve tables (ProjectId id) = found_node (project_with tables.nodes id)
 
+-- what a name says that its node is
+abbrev pub kind_named : NodeName → NodeKind
+kind_named (Organization number) = AnOrganization
+kind_named (Folder number) = AFolder
+kind_named (ProjectNumber number) = AProject
+kind_named (ProjectId id) = AProject
+
+-- the row of a name, if it is there; the organisation has none
+abbrev pub row_named : Tables → NodeName → Option Node
+row_named tables (Organization number) = None
+row_named tables (Folder number) = node_at tables.nodes (record { kind = AFolder; number = number })
+row_named tables (ProjectNumber number) = node_at tables.nodes (record { kind = AProject; number = number })
+row_named tables (ProjectId id) = project_with tables.nodes id
+
 -- ---- what stands above
 
 -- the parent of a folder or a project; the organisation has none
@@ -95,6 +109,10 @@ is_active_child kind parent row = row.active && same_kind row.id.kind kind && sa
 
 abbrev pub active_children : List Node → NodeKind → NodeId → List Node
 active_children nodes kind parent = filter (is_active_child kind parent) nodes
+
+-- anything ACTIVE
+abbrev pub has_active_child : List Node → NodeId → Bool
+has_active_child nodes parent = list_any (λ row. row.active && same_node row.parent parent) nodes
 
 abbrev pub number_order : Node → Node → Ordering
 number_order a b = nat_cmp a.id.number b.id.number

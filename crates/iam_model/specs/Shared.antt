@@ -5,13 +5,14 @@ use Rattle.std.specs.Option.{option_map_or}
 use Rattle.iam_names.specs.Node.{node_text}
 use Rattle.iam_names.specs.declared.node.NodeId.{NodeId}
 use Rattle.iam_names.specs.declared.node.NodeName.{NodeName}
+use Rattle.iam_types.specs.declared.node.Node.{Node}
 use Rattle.iam_types.specs.declared.node.Org.{Org}
 use Rattle.iam_types.specs.declared.refusal.LimitName.TheVariants.{Changes}
 use Rattle.iam_types.specs.declared.refusal.Refusal.{Refusal}
 use Rattle.iam_types.specs.declared.refusal.Refusal.TheVariants.{NotFound, NotActive, EtagMismatch}
 use Rattle.iam_types.specs.declared.tables.Tables.{Tables}
 use Rattle.iam_model.specs.Limits.{beyond}
-use Rattle.iam_model.specs.Nodes.{is_active, resolve}
+use Rattle.iam_model.specs.Nodes.{is_active, resolve, row_named}
 use Rattle.iam_model.specs.Refusals.{refused_if}
 
 -- the node isn't there
@@ -21,6 +22,10 @@ missing tables name = refused_if (is_none (resolve tables name)) (NotFound (node
 -- the rules behind a node that must be there
 abbrev pub with_node : Tables → NodeName → (NodeId → List (Option Refusal)) → List (Option Refusal)
 with_node tables name rules = option_map_or rules (resolve tables name) []
+
+-- the rules behind the row of a folder or a project that must be there
+abbrev pub with_row : Tables → NodeName → (Node → List (Option Refusal)) → List (Option Refusal)
+with_row tables name rules = option_map_or rules (row_named tables name) []
 
 -- the node of this name isn't ACTIVE
 abbrev pub inactive : Tables → NodeName → NodeId → Option Refusal

@@ -20,7 +20,7 @@ ghost use Rattle.iam_model.specs.Creation.{added, new_folder, new_node};
 ghost use Rattle.iam_model.specs.Facts.{AreApart, fact_order, facts_of, tables_with, with_changes};
 ghost use Rattle.iam_model.specs.Formed.{IsChange, IsFact, IsNodeFact, IsPolicyFact};
 ghost use Rattle.iam_model.specs.Hierarchy.{are_namesakes, count_folders, is_alone, is_led_up};
-ghost use Rattle.iam_model.specs.Nodes.{children_of, depth_below, exists, longest_path, organization_of, path, resolve};
+ghost use Rattle.iam_model.specs.Nodes.{children_of, depth_below, exists, longest_path, organization_of, path, resolve, row_named};
 ghost use Rattle.iam_model.specs.Opening.{IsOpening, opening_tables};
 ghost use Rattle.iam_model.specs.Path.{AreChildren, IsPath};
 ghost use Rattle.iam_model.specs.Refusals.{Asked, Rules, first_refusal, nothing_asked};
@@ -38,6 +38,11 @@ pub fn organization_is_named()
 /// A node that is found by a name exists.
 pub fn named_nodes_exist()
     ensures { (tables : Tables) (name : NodeName) (node : NodeId) → resolve tables name ≡ Some node → exists tables node ≡ true }
+{}
+
+/// A row that is found by a name is that of a node that exists.
+pub fn named_rows_exist()
+    ensures { (tables : Tables) (name : NodeName) (node : Node) → row_named tables name ≡ Some node → exists tables node.id ≡ true }
 {}
 
 /// A node that exists has a path, of at most twelve nodes.

@@ -11,8 +11,9 @@ pub use laws::{
     accepted_rules_fit, apart_facts_are_counted, broken_facts_give_none, changes_are_countable,
     changes_are_counted, changes_are_formed, changes_keep_consistent, changes_lead,
     children_are_listed, consistent_tables_are_given, facts_are_few, facts_are_put,
-    facts_tell_tables, given_tables_are_consistent, named_nodes_exist, new_nodes_are_counted,
-    nodes_are_formed, nothing_else_is_given, nothing_else_is_kept, openings_are_consistent,
-    ordered_facts_are_placed, organization_is_named, paths_are_one, paths_stand,
-    policies_are_countable, policies_are_formed, tables_have_placed_facts, ways_are_short,
+    facts_tell_tables, given_tables_are_consistent, named_nodes_exist, named_rows_exist,
+    new_nodes_are_counted, nodes_are_formed, nothing_else_is_given, nothing_else_is_kept,
+    openings_are_consistent, ordered_facts_are_placed, organization_is_named, paths_are_one,
+    paths_stand, policies_are_countable, policies_are_formed, tables_have_placed_facts,
+    ways_are_short,
 };

@@ -62,6 +62,17 @@ pub fn count_folders(tables: &Tables, parent: NodeId) -> usize
     count
 }
 
+/// Whether anything ACTIVE stands below a node.
+pub fn has_active_child(tables: &Tables, parent: NodeId) -> bool
+    ensures { result ≡ spec.has_active_child tables.now.nodes parent }
+{
+    tables
+        .nodes
+        .as_slice()
+        .iter()
+        .any(|row| row.active && row.parent == parent)
+}
+
 // Puts one more row, which stands before the others, in its place by its number, if it is a child.
 fn put_child(
     rows: &mut List<ByNumber>,

@@ -1,12 +1,13 @@
-// The rows that commands make: the policy that a node gets, and new nodes.
+// The rows that commands make: the policy that a node gets, new nodes, and what nodes become.
 ghost use Rattle.std.specs.Prelude.{◌≡◌, ◌+◌, ◌<◌, ◌^◌, IfOk, filter};
 ghost use Rattle.iam_model.specs.Allow as allow_spec;
 ghost use Rattle.iam_model.specs.Creation as spec;
+ghost use Rattle.iam_model.specs.NodeChanges as change_spec;
 ghost use Rattle.iam_model.specs.Policies as policy_spec;
 
 use iam_names::{NodeId, NodeKind};
 use iam_text::{List, OutOfMemory, Text};
-use iam_types::{AllowPolicy, Binding, Node, Tables, copy_binding};
+use iam_types::{AllowPolicy, Binding, Node, Tables, copy_binding, copy_node};
 use std::alloc::Global;
 
 fn has_members(binding: &Binding) -> bool
@@ -86,4 +87,31 @@ pub fn new_project(
         project: Some(id),
         active: true,
     })
+}
+
+/// A node with another name.
+pub fn renamed(alloc: Global, node: &Node, display: &Text) -> Result<Node, OutOfMemory>
+    ensures { IfOk result (λ renamed. renamed ≡ change_spec.renamed display.now node.now) }
+{
+    let mut renamed = copy_node(node)?;
+    renamed.display = Text::of(alloc, display.as_str())?;
+    Ok(renamed)
+}
+
+/// A node that is deleted.
+pub fn deleted(node: &Node) -> Result<Node, OutOfMemory>
+    ensures { IfOk result (λ deleted. deleted ≡ change_spec.deleted node.now) }
+{
+    let mut deleted = copy_node(node)?;
+    deleted.active = false;
+    Ok(deleted)
+}
+
+/// A node that is undeleted.
+pub fn undeleted(node: &Node) -> Result<Node, OutOfMemory>
+    ensures { IfOk result (λ undeleted. undeleted ≡ change_spec.undeleted node.now) }
+{
+    let mut undeleted = copy_node(node)?;
+    undeleted.active = true;
+    Ok(undeleted)
 }

@@ -3,7 +3,7 @@ ghost use Rattle.std.specs.Prelude.{◌≡◌, IfOk, IfSome, IsTrue};
 ghost use Rattle.std.specs.Option.{option_copied};
 ghost use Rattle.iam_model.specs.Nodes as spec;
 
-use iam_model::named_nodes_exist;
+use iam_model::{named_nodes_exist, named_rows_exist};
 use iam_names::{NodeId, NodeKind, NodeName};
 use iam_text::{List, OutOfMemory, Text};
 use iam_types::{Node, Tables};
@@ -95,6 +95,39 @@ pub fn resolve(tables: &Tables, name: &NodeName) -> Option<NodeId>
 {
     named_nodes_exist();
     node_of(tables, name)
+}
+
+// The row of a name, by the kind of name.
+fn row_of<'a>(tables: &'a Tables, name: &NodeName) -> Option<&'a Node>
+    ensures { option_copied result ≡ spec.row_named tables.now name.now }
+{
+    match name {
+        NodeName::Organization(_) => None,
+        NodeName::Folder(number) => node_at(
+            tables,
+            NodeId {
+                kind: NodeKind::Folder,
+                number: *number,
+            },
+        ),
+        NodeName::ProjectNumber(number) => node_at(
+            tables,
+            NodeId {
+                kind: NodeKind::Project,
+                number: *number,
+            },
+        ),
+        NodeName::ProjectId(id) => project_with(tables, id),
+    }
+}
+
+/// The row of a name, if it is there; the organisation has none.
+pub fn row_named<'a>(tables: &'a Tables, name: &NodeName) -> Option<&'a Node>
+    ensures row { option_copied result ≡ spec.row_named tables.now name.now }
+    ensures there { IfSome result (λ row. IsTrue (spec.exists tables.now row.now.id)) }
+{
+    named_rows_exist();
+    row_of(tables, name)
 }
 
 /// The parent of a folder or a project; the organisation has none.

@@ -1,5 +1,5 @@
 -- The lines of the definition and the code's table, and what a line of the table has.
-use Rattle.std.proofs.Common.{◌≡◌, ℕ, zero, suc, ◌<◌, Bool, true, not, ◌&&◌, ◌||◌, List, [], ◌∷◌, ◌++◌, map, length, get_or, codes, Some, None, inl, inr, ◌⊎◌, ⊎_elim, refl, sym, ap, ◌∙◌, subst, arith}
+use Rattle.std.proofs.Common.{◌≡◌, ◌≢◌, ℕ, zero, suc, ◌<◌, Bool, true, not, ◌&&◌, ◌||◌, List, [], ◌∷◌, ◌++◌, map, length, get_or, codes, Some, None, inl, inr, ◌⊎◌, ⊎_elim, refl, sym, ap, ◌∙◌, subst, arith}
 use Rattle.std.specs.List.{All, Contains, list_all, flat_map}
 use Rattle.std.specs.Bool.{◌==◌}
 use Rattle.std.specs.Cmp.Lexicographic.{pointwise}
@@ -7,16 +7,18 @@ use Rattle.std.proofs.lemmas.Bool.{and_parts}
 use Rattle.std.proofs.lemmas.List.Concat.{flat_map-cons}
 use Rattle.std.proofs.lemmas.List.Elements.{All-append, All-cons, All-nil, All-contains, Contains-append_cases, Contains-append_left, Contains-append_right}
 use Rattle.std.proofs.lemmas.List.Sums.{AllPass-from_list_all}
+use Rattle.iam_names.specs.Node.{collection_of, node_text}
 use Rattle.iam_names.specs.declared.node.NodeKind.{NodeKind}
 use Rattle.iam_names.specs.declared.node.NodeKind.TheVariants.{Organization, Folder, Project}
 use Rattle.iam_names.specs.declared.node.NodeName.{NodeName}
-use Rattle.iam_json.specs.Calls.{HasParts, NamesNode}
+use Rattle.iam_json.specs.Calls.{HasParts, NamesNode, NamesFolder, NamesChild}
 use Rattle.iam_routes.specs.Matched.{IsTable}
 use Rattle.iam_routes.specs.Routed.{pieces_of, same_verb, seen_line, seen_path}
-use Rattle.iam_json.specs.declared.route.Line.TheVariants.{TestPermissions, ReadPolicy, SetPolicy, ReadNode, ListFolders, ListProjects, CreateFolder, CreateProject}
-use Rattle.iam_routes.specs.Routes.{Piece, RouteLine, route_line, lines, collection_lines, collection_path, node_lines, node_path, IsPath}
+use Rattle.iam_json.specs.declared.route.Line.TheVariants.{TestPermissions, ReadPolicy, SetPolicy, ReadNode, ListFolders, ListProjects, CreateFolder, CreateProject, DeleteNode, UndeleteNode}
+use Rattle.iam_routes.specs.Routes.{Piece, RouteLine, route_line, lines, child_lines, collection_lines, collection_path, folder_lines, node_lines, node_path, project_lines, rename_line, IsPath}
 use Rattle.iam_routes.specs.declared.table.PathLine.{PathLine}
 use Rattle.iam_routes.specs.declared.table.TablePath.{TablePath}
+use Rattle.iam_routes.proofs.Names.{folder_in, no_organization_in}
 use Rattle.iam_routes.proofs.Segments.{paths_apart}
 
 -- ---- elements of lists
@@ -75,8 +77,10 @@ listed_line paths path line table there here = subst (λ l. Contains l line) tab
 
 -- ---- the parts of a line
 
-node_parts : (kind : NodeKind) (place : List ℕ) (parts : List (List ℕ)) → IsPath (node_path kind) place parts → (node : NodeName) × NamesNode parts node
-node_parts kind place parts first =
+-- the node, and that it stands in its collection
+named_parts : (kind : NodeKind) (place : List ℕ) (parts : List (List ℕ)) → IsPath (node_path kind) place parts
+    → (node : NodeName) × NamesNode parts node × ((behind : List ℕ) × (node_text node ≡ collection_of kind ++ behind))
+named_parts kind place parts first =
     let second = first.5 in
     let third = second.5 in
     let named = third.3.gives in
@@ -85,7 +89,18 @@ node_parts kind place parts first =
     first.4 ∙ ap (λ g. g ++ first.2) first.3.gives.1 ∙ second.4 ∙ ap (λ g. g ++ second.2) second.3.gives.1 ∙ third.4
     ∙ ap (λ g. g ++ third.2) named.2 ∙ ap (λ m. named.0 ∷ m) last.1
     in
-    (named.1.0, (named.1.1, all ∙ ap (λ p. p ∷ []) named.1.2))
+    (named.1.0, (named.1.1, all ∙ ap (λ p. p ∷ []) named.1.2), (_, sym named.1.2 ∙ named.1.3))
+
+node_parts : (kind : NodeKind) (place : List ℕ) (parts : List (List ℕ)) → IsPath (node_path kind) place parts → (node : NodeName) × NamesNode parts node
+node_parts kind place parts path = let named = named_parts kind place parts path in (named.0, named.1)
+
+folder_parts : (place : List ℕ) (parts : List (List ℕ)) → IsPath (node_path Folder) place parts → (node : NodeName) × NamesFolder parts node
+folder_parts place parts path =
+    let named = named_parts Folder place parts path in (named.0, (named.1, folder_in named.0 named.2.0 named.2.1))
+
+child_parts : (kind : NodeKind) → kind ≢ Organization → (place : List ℕ) (parts : List (List ℕ)) → IsPath (node_path kind) place parts → (node : NodeName) × NamesChild parts node
+child_parts kind other place parts path =
+    let named = named_parts kind place parts path in (named.0, (named.1, no_organization_in kind other named.0 named.2.0 named.2.1))
 
 collection_parts : (kind : NodeKind) (place : List ℕ) (parts : List (List ℕ)) → IsPath (collection_path kind) place parts → parts ≡ []
 collection_parts kind place parts first =
@@ -110,13 +125,26 @@ node_lines_give kind =
 two_lines_give : (first second : RouteLine) → GivesParts first → GivesParts second → All GivesParts (first ∷ second ∷ [])
 two_lines_give first second one two = All-cons GivesParts first (second ∷ []) one (All-cons GivesParts second [] two (All-nil GivesParts))
 
-folder_lines_give : All GivesParts (collection_lines Folder ListFolders CreateFolder)
+child_lines_give : (kind : NodeKind) → kind ≢ Organization → All GivesParts (child_lines kind)
+child_lines_give kind other =
+    two_lines_give (route_line DeleteNode (codes "DELETE") (node_path kind) None) (route_line UndeleteNode (codes "POST") (node_path kind) (Some (codes "undelete")))
+    (child_parts kind other) (child_parts kind other)
+
+folder_lines_give : All GivesParts folder_lines
 folder_lines_give =
+    All-append GivesParts (node_lines Folder) (rename_line ∷ child_lines Folder) (node_lines_give Folder)
+    (All-cons GivesParts rename_line (child_lines Folder) folder_parts (child_lines_give Folder (λ e. cc e)))
+
+project_lines_give : All GivesParts project_lines
+project_lines_give = All-append GivesParts (node_lines Project) (child_lines Project) (node_lines_give Project) (child_lines_give Project (λ e. cc e))
+
+folders_give : All GivesParts (collection_lines Folder ListFolders CreateFolder)
+folders_give =
     two_lines_give (route_line ListFolders (codes "GET") (collection_path Folder) None) (route_line CreateFolder (codes "POST") (collection_path Folder) None)
     (collection_parts Folder) (collection_parts Folder)
 
-project_lines_give : All GivesParts (collection_lines Project ListProjects CreateProject)
-project_lines_give =
+projects_give : All GivesParts (collection_lines Project ListProjects CreateProject)
+projects_give =
     two_lines_give (route_line ListProjects (codes "GET") (collection_path Project) None) (route_line CreateProject (codes "POST") (collection_path Project) None)
     (collection_parts Project) (collection_parts Project)
 
@@ -126,10 +154,10 @@ collections = collection_lines Folder ListFolders CreateFolder ++ collection_lin
 all_give : All GivesParts lines
 unfolding lines
 all_give =
-    All-append GivesParts (node_lines Organization) (node_lines Folder ++ (node_lines Project ++ collections)) (node_lines_give Organization)
-    (All-append GivesParts (node_lines Folder) (node_lines Project ++ collections) (node_lines_give Folder)
-    (All-append GivesParts (node_lines Project) collections (node_lines_give Project)
-    (All-append GivesParts (collection_lines Folder ListFolders CreateFolder) (collection_lines Project ListProjects CreateProject) folder_lines_give project_lines_give)))
+    All-append GivesParts (node_lines Organization) (folder_lines ++ (project_lines ++ collections)) (node_lines_give Organization)
+    (All-append GivesParts folder_lines (project_lines ++ collections) folder_lines_give
+    (All-append GivesParts project_lines collections project_lines_give
+    (All-append GivesParts (collection_lines Folder ListFolders CreateFolder) (collection_lines Project ListProjects CreateProject) folders_give projects_give)))
 
 pub has_parts : (line : RouteLine) → Contains lines line → GivesParts line
 has_parts line there = All-contains GivesParts lines line all_give there

@@ -1,5 +1,5 @@
 -- The node that a segment names in a collection.
-use Rattle.std.proofs.Common.{rules, ◌≡◌, ◌≢◌, ℕ, zero, suc, ◌+◌, ◌<◌, true, List, [], ◌∷◌, ◌++◌, length, length-append, get_or, None, IsUtf8, codes, sym, ap, ◌∙◌, subst, arith}
+use Rattle.std.proofs.Common.{rules, ◌≡◌, ◌≢◌, ℕ, zero, suc, ◌+◌, ◌<◌, true, List, [], ◌∷◌, ◌++◌, length, length-append, get_or, None, IsUtf8, codes, refl, sym, ap, ◌∙◌, subst, arith}
 use Rattle.std.specs.List.{list_all}
 use Rattle.std.specs.Str.{IsAscii}
 use Rattle.std.proofs.lemmas.Bool.{and_parts}
@@ -73,3 +73,20 @@ unfolding percent_decode
 names_some kind segment part named none =
     only_collection kind named.0 named.1
     (sym named.2 ∙ named.3 ∙ ap (λ s. collection_of kind ++ percent_decode s) none ∙ append-nil (collection_of kind))
+
+-- ---- the kinds of nodes in a collection
+
+-- a folder stands in its collection by its number
+pub folder_in : (node : NodeName) (behind : List ℕ) → node_text node ≡ collection_of kinds.Folder ++ behind → (number : ℕ) × (node ≡ Folder number)
+folder_in (Organization n) behind is = absurd (other_letter (node_text (Organization n)) (collection_of kinds.Folder ++ behind) (λ e. omega arith) is)
+folder_in (Folder n) behind is = (n, refl)
+folder_in (ProjectNumber n) behind is = absurd (other_letter (node_text (ProjectNumber n)) (collection_of kinds.Folder ++ behind) (λ e. omega arith) is)
+folder_in (ProjectId id) behind is = absurd (other_letter (node_text (ProjectId id)) (collection_of kinds.Folder ++ behind) (λ e. omega arith) is)
+
+-- an organisation stands in no other collection
+pub no_organization_in : (kind : NodeKind) → kind ≢ kinds.Organization → (node : NodeName) (behind : List ℕ) → node_text node ≡ collection_of kind ++ behind → (number : ℕ) → node ≢ Organization number
+no_organization_in kinds.Organization other node behind is number same = other refl
+no_organization_in kinds.Folder other node behind is number same =
+    other_letter (node_text (Organization number)) (collection_of kinds.Folder ++ behind) (λ e. omega arith) (ap node_text (sym same) ∙ is)
+no_organization_in kinds.Project other node behind is number same =
+    other_letter (node_text (Organization number)) (collection_of kinds.Project ++ behind) (λ e. omega arith) (ap node_text (sym same) ∙ is)

@@ -10,7 +10,7 @@ use Rattle.iam_names.specs.declared.node.NodeKind.{NodeKind}
 use Rattle.iam_names.specs.declared.node.NodeKind.TheVariants.{Organization, Folder, Project}
 use Rattle.iam_names.specs.declared.node.NodeName.{NodeName}
 use Rattle.iam_json.specs.declared.route.Line.{Line}
-use Rattle.iam_json.specs.declared.route.Line.TheVariants.{TestPermissions, ReadPolicy, SetPolicy, ReadNode, ListFolders, ListProjects, CreateFolder, CreateProject}
+use Rattle.iam_json.specs.declared.route.Line.TheVariants.{TestPermissions, ReadPolicy, SetPolicy, ReadNode, ListFolders, ListProjects, CreateFolder, CreateProject, RenameFolder, DeleteNode, UndeleteNode}
 
 -- ---- the table
 
@@ -52,6 +52,23 @@ node_lines kind =
     ∷ route_line ReadNode (codes "GET") (node_path kind) None
     ∷ []
 
+-- the lines of a folder or project alone: the organisation isn't deleted
+abbrev pub child_lines : NodeKind → List RouteLine
+child_lines kind =
+    route_line DeleteNode (codes "DELETE") (node_path kind) None
+    ∷ route_line UndeleteNode (codes "POST") (node_path kind) (Some (codes "undelete"))
+    ∷ []
+
+-- the line of a folder alone
+abbrev pub rename_line : RouteLine
+rename_line = route_line RenameFolder (codes "PATCH") (node_path Folder) None
+
+abbrev pub folder_lines : List RouteLine
+folder_lines = node_lines Folder ++ rename_line ∷ child_lines Folder
+
+abbrev pub project_lines : List RouteLine
+project_lines = node_lines Project ++ child_lines Project
+
 -- the lines of a collection, of which one lists it, and one makes what is in it
 abbrev pub collection_lines : NodeKind → Line → Line → List RouteLine
 collection_lines kind lists makes =
@@ -60,8 +77,8 @@ collection_lines kind lists makes =
 unfoldable pub lines : List RouteLine
 lines =
     node_lines Organization
-    ++ (node_lines Folder
-    ++ (node_lines Project
+    ++ (folder_lines
+    ++ (project_lines
     ++ (collection_lines Folder ListFolders CreateFolder
     ++ collection_lines Project ListProjects CreateProject)))
 

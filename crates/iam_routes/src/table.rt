@@ -31,43 +31,76 @@ const FOLDERS: Piece = Piece::Fixed("folders");
 
 const PROJECTS: Piece = Piece::Fixed("projects");
 
-/// The lines of a node.
-const NODE_LINES: &[PathLine] = &[
-    PathLine {
-        line: Line::TestPermissions,
-        method: "POST",
-        verb: Some("testIamPermissions"),
-    },
-    PathLine {
-        line: Line::ReadPolicy,
-        method: "POST",
-        verb: Some("getIamPolicy"),
-    },
-    PathLine {
-        line: Line::SetPolicy,
-        method: "POST",
-        verb: Some("setIamPolicy"),
-    },
-    PathLine {
-        line: Line::ReadNode,
-        method: "GET",
-        verb: None,
-    },
-];
+const TEST_PERMISSIONS: PathLine = PathLine {
+    line: Line::TestPermissions,
+    method: "POST",
+    verb: Some("testIamPermissions"),
+};
+
+const READ_POLICY: PathLine = PathLine {
+    line: Line::ReadPolicy,
+    method: "POST",
+    verb: Some("getIamPolicy"),
+};
+
+const SET_POLICY: PathLine = PathLine {
+    line: Line::SetPolicy,
+    method: "POST",
+    verb: Some("setIamPolicy"),
+};
+
+const READ_NODE: PathLine = PathLine {
+    line: Line::ReadNode,
+    method: "GET",
+    verb: None,
+};
+
+const RENAME_FOLDER: PathLine = PathLine {
+    line: Line::RenameFolder,
+    method: "PATCH",
+    verb: None,
+};
+
+const DELETE_NODE: PathLine = PathLine {
+    line: Line::DeleteNode,
+    method: "DELETE",
+    verb: None,
+};
+
+const UNDELETE_NODE: PathLine = PathLine {
+    line: Line::UndeleteNode,
+    method: "POST",
+    verb: Some("undelete"),
+};
 
 /// The paths of the table, each once.
 pub static PATHS: [TablePath; 5] = [
     TablePath {
         pieces: &[V3, ORGANIZATIONS, Piece::NodeIn(NodeKind::Organization)],
-        lines: NODE_LINES,
+        lines: &[TEST_PERMISSIONS, READ_POLICY, SET_POLICY, READ_NODE],
     },
     TablePath {
         pieces: &[V3, FOLDERS, Piece::NodeIn(NodeKind::Folder)],
-        lines: NODE_LINES,
+        lines: &[
+            TEST_PERMISSIONS,
+            READ_POLICY,
+            SET_POLICY,
+            READ_NODE,
+            RENAME_FOLDER,
+            DELETE_NODE,
+            UNDELETE_NODE,
+        ],
     },
     TablePath {
         pieces: &[V3, PROJECTS, Piece::NodeIn(NodeKind::Project)],
-        lines: NODE_LINES,
+        lines: &[
+            TEST_PERMISSIONS,
+            READ_POLICY,
+            SET_POLICY,
+            READ_NODE,
+            DELETE_NODE,
+            UNDELETE_NODE,
+        ],
     },
     TablePath {
         pieces: &[V3, FOLDERS],

@@ -8,3 +8,6 @@ returns-in-ReadPolicy c = rw c.in-ReadPolicy.is (rw c.as_slice-parts.ensures at 
 
 pub returns-in-SetPolicy : goal.returns-in-SetPolicy
 returns-in-SetPolicy c = rw c.in-SetPolicy.is (rw c.as_slice-parts.ensures at c.policy_setting.ensures)
+
+pub returns-in-RenameFolder : goal.returns-in-RenameFolder
+returns-in-RenameFolder c = rw c.in-RenameFolder.is (rw c.as_slice-parts.ensures at c.folder_renaming.ensures)
